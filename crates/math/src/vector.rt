@@ -1,0 +1,86 @@
+// The vector in three dimensions, with the operations that the contact code takes from it.
+ghost use mathlib.Core.Path.{_≡_};
+ghost use Rattle.math.specs.Vectors.{added, subtracted, negated, scaled, dotted, crossed};
+
+#[derive(Clone, Copy)]
+pub struct Vector {
+    pub x: f64,
+    pub y: f64,
+    pub z: f64,
+}
+
+impl Vector {
+    pub const ZERO: Vector = Vector {
+        x: 0.0,
+        y: 0.0,
+        z: 0.0,
+    };
+
+    pub fn new(x: f64, y: f64, z: f64) -> Vector
+        ensures { λ r. ⌜ r ≡ record { x = x; y = y; z = z } ⌝ }
+    {
+        Vector { x, y, z }
+    }
+
+    pub fn add(self, other: Vector) -> Vector
+        ensures { λ r. ⌜ r ≡ added self other ⌝ }
+    {
+        Vector {
+            x: self.x + other.x,
+            y: self.y + other.y,
+            z: self.z + other.z,
+        }
+    }
+
+    pub fn sub(self, other: Vector) -> Vector
+        ensures { λ r. ⌜ r ≡ subtracted self other ⌝ }
+    {
+        Vector {
+            x: self.x - other.x,
+            y: self.y - other.y,
+            z: self.z - other.z,
+        }
+    }
+
+    pub fn neg(self) -> Vector
+        ensures { λ r. ⌜ r ≡ negated self ⌝ }
+    {
+        Vector {
+            x: -self.x,
+            y: -self.y,
+            z: -self.z,
+        }
+    }
+
+    pub fn scale(self, factor: f64) -> Vector
+        ensures { λ r. ⌜ r ≡ scaled self factor ⌝ }
+    {
+        Vector {
+            x: self.x * factor,
+            y: self.y * factor,
+            z: self.z * factor,
+        }
+    }
+
+    pub fn dot(self, other: Vector) -> f64
+        ensures { λ r. ⌜ r ≡ dotted self other ⌝ }
+    {
+        self.x * other.x + self.y * other.y + self.z * other.z
+    }
+
+    pub fn length_squared(self) -> f64
+        ensures { λ r. ⌜ r ≡ dotted self self ⌝ }
+    {
+        self.dot(self)
+    }
+
+    pub fn cross(self, other: Vector) -> Vector
+        ensures { λ r. ⌜ r ≡ crossed self other ⌝ }
+    {
+        Vector {
+            x: self.y * other.z - other.y * self.z,
+            y: self.z * other.x - other.z * self.x,
+            z: self.x * other.y - other.x * self.y,
+        }
+    }
+}
