@@ -1,1 +1,2 @@
+pub mod Magnitude
 pub mod Signs
