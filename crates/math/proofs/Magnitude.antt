@@ -6,6 +6,7 @@ use mathlib.Core.Bool.{Bool, true, false, not, _&&_, _||_, cond, true≢false, B
 use Prim.Native.Nat.{ℕ, zero, suc, _+_, _-_, _*_, _/_, _%_, _^_, _≤_, _<_, compare}
 use native.Mathlib.Nat.{le-trans, le-of-eq, le-of-lt, eq-or-lt-of-le, mul-comm, mul-assoc, mul-left-comm, mul-right-comm, mul-mul-mul-comm, mul-le-mul, mul-le-mul-right, add-mul, add-le-add, mul-pos, lt-irrefl}
 use native.Mathlib.Omega.{arith}
+use lib.IntN.{ℤ}
 use lib.Dec.{T, ltb, eqb, eqb-refl, ltb→lt, lt→ltb, eqb→eq}
 use lib.Ieee.{Float, Format, binary64, nan, inf, fin, prec, emax, low, unlike, up, down, nearest, odd, units, round, neg, add, sub, mul, div, sum, le, lt, eq}
 use lib.Ieee as Ieee
@@ -18,11 +19,14 @@ use Rattle.math.specs.Floats.{size}
 use Rattle.math.specs.Magnitude.{within}
 
 -- what may stand as a bound: finite, and not negative
-abbrev pub Bound : Float → Type 0
-Bound nan = ⊥
-Bound (inf s) = ⊥
-Bound (fin true m e) = ⊥
-Bound (fin false m e) = Unit {0}
+abbrev pub bound : Float → Bool
+bound nan = false
+bound (inf s) = false
+bound (fin true m e) = false
+bound (fin false m e) = true
+
+pub no : {X : Type 0} → false ≡ true → X
+no e = absurd (true≢false (sym e))
 
 -- finite, and at most p / q in size
 abbrev pub Small : Float → ℕ → ℕ → Type 0
@@ -58,23 +62,23 @@ of-le a b h =
       | inr q ↦ or-l (ltb a b) (eqb a b && true) (lt→ltb a b q)
     ]
 
-to-T : (b : Bool) → b ≡ true → T b
+pub to-T : (b : Bool) → b ≡ true → T b
 to-T b e = subst T (sym e) tt
 
-pub small-of-within : (b x : Float) → Bound b → within b x ≡ true → Small x (num b) (den b)
+pub small-of-within : (b x : Float) → bound b ≡ true → within b x ≡ true → Small x (num b) (den b)
 unfolding within withSign le lt eq
-small-of-within nan x k h = absurd k
-small-of-within (inf s) x k h = absurd k
-small-of-within (fin true n d) x k h = absurd k
-small-of-within (fin false n d) nan k h = absurd (true≢false (sym h))
-small-of-within (fin false n d) (inf s) k h = absurd (true≢false (sym h))
+small-of-within nan x k h = no k
+small-of-within (inf s) x k h = no k
+small-of-within (fin true n d) x k h = no k
+small-of-within (fin false n d) nan k h = no h
+small-of-within (fin false n d) (inf s) k h = no h
 small-of-within (fin false n d) (fin s m e) k h = lt-or-eq (m * up e * down d) (n * up d * down e) (to-T _ h)
 
-pub within-of-small : (b x : Float) → Bound b → Small x (num b) (den b) → within b x ≡ true
+pub within-of-small : (b x : Float) → bound b ≡ true → Small x (num b) (den b) → within b x ≡ true
 unfolding within withSign le lt eq
-within-of-small nan x k h = absurd k
-within-of-small (inf s) x k h = absurd k
-within-of-small (fin true n d) x k h = absurd k
+within-of-small nan x k h = no k
+within-of-small (inf s) x k h = no k
+within-of-small (fin true n d) x k h = no k
 within-of-small (fin false n d) nan k h = absurd h
 within-of-small (fin false n d) (inf s) k h = absurd h
 within-of-small (fin false n d) (fin s m e) k h = is-true _ (of-le (m * up e * down d) (n * up d * down e) h)
@@ -85,13 +89,19 @@ small-more nan p q r s Q h k = k
 small-more (inf t) p q r s Q h k = k
 small-more (fin t m e) p q r s Q h k = through (m * up e) p r (down e) q s Q k h
 
-pub within-more : (b b′ x : Float) → Bound b → Bound b′ → within b′ b ≡ true → within b x ≡ true → within b′ x ≡ true
-within-more nan b′ x k k′ h w = absurd k
-within-more (inf s) b′ x k k′ h w = absurd k
-within-more (fin true n d) b′ x k k′ h w = absurd k
-within-more (fin false n d) b′ x k k′ h w =
-    let b = fin false n d in
-    within-of-small b′ x k′ (small-more x (num b) (den b) (num b′) (den b′) (den-pos b) (small-of-within b′ b k′ h) (small-of-within b x k w))
+-- what holds of a bound written out holds of every bound
+pub bound-is : (P : Float → Type 0) → ((m : ℕ) (e : ℤ) → P (fin false m e)) → (b : Float) → bound b ≡ true → P b
+bound-is P p nan k = no k
+bound-is P p (inf s) k = no k
+bound-is P p (fin true m e) k = no k
+bound-is P p (fin false m e) k = p m e
+
+-- of two values where the first is a bound, the order is that of `within`
+order-of-bound : (b b′ : Float) → bound b ≡ true → bound b′ ≡ true → within b′ b ≡ true → num b * den b′ ≤ num b′ * den b
+order-of-bound b b′ k k′ h = bound-is (λ c. within b′ c ≡ true → num c * den b′ ≤ num b′ * den c) (λ m e g. small-of-within b′ (fin false m e) k′ g) b k h
+
+pub within-more : (b b′ x : Float) → bound b ≡ true → bound b′ ≡ true → within b′ b ≡ true → within b x ≡ true → within b′ x ≡ true
+within-more b b′ x k k′ h w = within-of-small b′ x k′ (small-more x (num b) (den b) (num b′) (den b′) (den-pos b) (order-of-bound b b′ k k′ h) (small-of-within b x k w))
 
 -- ---- rounding: the sign goes through it, and the order stays
 
@@ -147,7 +157,7 @@ sum-within a b x y c p q C Q h = by-sign (Bool·beq a b)
 
 cross-sum : (x dx p q y dy r s : ℕ) → x * q ≤ p * dx → y * s ≤ r * dy → (x * dy + y * dx) * (q * s) ≤ (p * s + r * q) * (dx * dy)
 cross-sum x dx p q y dy r s h k =
-    let a : x * dy * (q * s) ≤ p * s * (dx * dy) = simp (mul-assoc, mul-comm, mul-left-comm) (simp (mul-assoc, mul-comm, mul-left-comm) at (mul-le-mul-right (dy * s) h)) in
+    let a : x * dy * (q * s) ≤ p * s * (dx * dy) = simp (mul-assoc, mul-comm, mul-left-comm) (simp (mul-assoc, mul-comm) at (mul-le-mul-right (dy * s) h)) in
     let b : y * dx * (q * s) ≤ r * q * (dx * dy) = simp (mul-assoc, mul-comm, mul-left-comm) (simp (mul-assoc, mul-comm, mul-left-comm) at (mul-le-mul-right (dx * q) k)) in
     le-trans (le-of-eq (add-mul (x * dy) (y * dx) (q * s))) (le-trans (add-le-add a b) (le-of-eq (sym (add-mul (p * s) (r * q) (dx * dy)))))
 
@@ -183,3 +193,56 @@ small-div (fin a m e) (fin b n d) p q r s Q R h k = go (eqb n 0) (eqb→eq n 0)
     go true z = absurd (lt-irrefl 0 (subst (λ (i : ℕ). 0 < i) (z tt) (k .0)))
     go false z =
         within-round binary64 (unlike a b) (m * up e * down d) (n * up d * down e) (p * s) (r * q) (mul-pos (mul-pos (k .0) (up-pos d)) (down-pos e)) (mul-pos R Q) cross
+
+-- ---- the laws: each operation's result is within the same operation on the bounds
+
+pub mul-within : (b c x y : Float) → bound b ≡ true → bound c ≡ true → within b x ≡ true → within c y ≡ true → within (mul binary64 b c) (mul binary64 x y) ≡ true
+unfolding mul
+mul-within b c x y k l h j = bound-is (λ b′. within b′ x ≡ true → within (mul binary64 b′ c) (mul binary64 x y) ≡ true) (λ m e g. bound-is (λ c′. within c′ y ≡ true → within (mul binary64 (fin false m e) c′) (mul binary64 x y) ≡ true) (written m e g) c l j) b k h
+  where
+    written : (m : ℕ) (e : ℤ) → within (fin false m e) x ≡ true → (n : ℕ) (d : ℤ) → within (fin false n d) y ≡ true → within (mul binary64 (fin false m e) (fin false n d)) (mul binary64 x y) ≡ true
+    written m e g n d i = small-mul x y (m * up e) (down e) (n * up d) (down d) (down-pos e) (down-pos d) (small-of-within (fin false m e) x refl g) (small-of-within (fin false n d) y refl i)
+
+pub add-within : (b c x y : Float) → bound b ≡ true → bound c ≡ true → within b x ≡ true → within c y ≡ true → within (add binary64 b c) (add binary64 x y) ≡ true
+unfolding add sum
+add-within b c x y k l h j = bound-is (λ b′. within b′ x ≡ true → within (add binary64 b′ c) (add binary64 x y) ≡ true) (λ m e g. bound-is (λ c′. within c′ y ≡ true → within (add binary64 (fin false m e) c′) (add binary64 x y) ≡ true) (written m e g) c l j) b k h
+  where
+    written : (m : ℕ) (e : ℤ) → within (fin false m e) x ≡ true → (n : ℕ) (d : ℤ) → within (fin false n d) y ≡ true → within (add binary64 (fin false m e) (fin false n d)) (add binary64 x y) ≡ true
+    written m e g n d i = small-add x y (m * up e) (down e) (n * up d) (down d) (down-pos e) (down-pos d) (small-of-within (fin false m e) x refl g) (small-of-within (fin false n d) y refl i)
+
+pub neg-within : (b x : Float) → within b (neg x) ≡ within b x
+unfolding within withSign neg
+neg-within b nan = refl
+neg-within b (inf s) = refl
+neg-within b (fin s m e) = refl
+
+pub sub-within : (b c x y : Float) → bound b ≡ true → bound c ≡ true → within b x ≡ true → within c y ≡ true → within (add binary64 b c) (sub binary64 x y) ≡ true
+unfolding sub
+sub-within b c x y k l h j = add-within b c x (neg y) k l h (neg-within c y ∙ j)
+
+-- ---- the difference of two numbers that are not negative is no larger than the larger one
+
+apart-within : (x y c p q : ℕ) → 0 < c → 0 < q → x * q ≤ p * c → y * q ≤ p * c → within (round binary64 false p q) (sum binary64 false x true y c) ≡ true
+unfolding sum
+apart-within x y c p q C Q h k = by-order (ltb x y)
+  where
+    under : (n m : ℕ) → n ≤ m → m * q ≤ p * c → n * q ≤ p * c
+    under n m l g = le-trans (mul-le-mul-right q l) g
+    by-order : (t : Bool) → within (round binary64 false p q) (cond t (round binary64 true (y - x) c) (round binary64 (false && ltb y x) (x - y) c)) ≡ true
+    by-order true = within-round binary64 true (y - x) c p q C Q (under (y - x) y (omega arith) k)
+    by-order false = within-round binary64 false (x - y) c p q C Q (under (x - y) x (omega arith) h)
+
+-- a bound that rounding keeps, as every bound that is an f64 does
+pub difference-within : (b x y : Float) → bound b ≡ true → round binary64 false (num b) (den b) ≡ b → bound x ≡ true → bound y ≡ true → within b x ≡ true → within b y ≡ true → within b (sub binary64 x y) ≡ true
+unfolding sub add neg
+difference-within b x y B own X Y h k =
+    bound-is (λ x′. within b x′ ≡ true → within b (sub binary64 x′ y) ≡ true) (λ m e g. bound-is (λ y′. within b y′ ≡ true → within b (sub binary64 (fin false m e) y′) ≡ true) (written m e g) y Y k) x X h
+  where
+    written : (m : ℕ) (e : ℤ) → within b (fin false m e) ≡ true → (n : ℕ) (d : ℤ) → within b (fin false n d) ≡ true → within b (sub binary64 (fin false m e) (fin false n d)) ≡ true
+    written m e g n d j =
+        let s = sub binary64 (fin false m e) (fin false n d) in
+        let p = num b in
+        let q = den b in
+        let x : m * up e * down d * q ≤ p * (down e * down d) = simp (mul-assoc, mul-comm, mul-left-comm) (simp (mul-assoc, mul-comm) at (mul-le-mul-right (down d) (small-of-within b (fin false m e) B g))) in
+        let y : n * up d * down e * q ≤ p * (down e * down d) = simp (mul-assoc, mul-comm, mul-left-comm) (simp (mul-assoc, mul-comm) at (mul-le-mul-right (down e) (small-of-within b (fin false n d) B j))) in
+        subst (λ (z : Float). within z s ≡ true) own (apart-within (m * up e * down d) (n * up d * down e) (down e * down d) p q (mul-pos (down-pos e) (down-pos d)) (den-pos b) x y)

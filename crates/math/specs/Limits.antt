@@ -2,7 +2,8 @@
 use mathlib.Core.Bool.{Bool, _&&_}
 use lib.Ieee as Ieee
 use lib.Ieee.{Float}
-use Rattle.math.specs.Floats.{_⊕_, _⊗_, size, bits}
+use Rattle.math.specs.Floats.{_⊕_, _⊗_, bits}
+use Rattle.math.specs.Magnitude.{within, vector-within}
 use Rattle.math.specs.Vectors.{dotted}
 use Rattle.math.specs.declared.pose.Pose.{Pose}
 use Rattle.math.specs.declared.pose.Rotation.{Rotation}
@@ -13,20 +14,25 @@ abbrev pub limit : Float
 limit = bits 0x4130_0000_0000_0000
 
 -- no NaN, no infinity, and at most 2^20 in size
-unfoldable pub may-be-given : Float → Bool
-may-be-given x = Ieee.le (size x) limit
+abbrev pub may-be-given : Float → Bool
+may-be-given x = within limit x
 
-unfoldable pub vector-given : Vector → Bool
-unfolding may-be-given
-vector-given v = may-be-given (v .x) && may-be-given (v .y) && may-be-given (v .z)
+abbrev pub vector-given : Vector → Bool
+vector-given v = vector-within limit v
 
 unfoldable pub pose-given : Pose → Bool
-unfolding may-be-given vector-given
 pose-given p = vector-given (p .translation) && vector-given (p .rotation .b) && may-be-given (p .rotation .w)
 
--- from 1 - 2^-20 to 1 + 2^-20
+-- 1 - 2^-20
+abbrev pub unit-low : Float
+unit-low = bits 0x3fef_fffe_0000_0000
+
+-- 1 + 2^-20
+abbrev pub unit-high : Float
+unit-high = bits 0x3ff0_0001_0000_0000
+
 unfoldable pub near-one : Float → Bool
-near-one s = Ieee.le (bits 0x3fef_fffe_0000_0000) s && Ieee.le s (bits 0x3ff0_0001_0000_0000)
+near-one s = Ieee.le unit-low s && Ieee.le s unit-high
 
 unfoldable pub unit-vector : Vector → Bool
 unfolding near-one

@@ -4,14 +4,15 @@ use crate::polygonal_feature3d::PolygonalFeature;
 use math::vector::Vector;
 ghost use mathlib.Core.Path.{_≡_};
 ghost use Prim.Native.Nat.{_≤_};
-ghost use Rattle.shape.specs.Nearness.{near-all, near-vector};
+ghost use Rattle.math.specs.Magnitude.{vector-within};
+ghost use Rattle.shape.specs.Nearness.{vertex-limit, near-all};
 ghost use Rattle.shape.specs.Features.{Fields, fields, nothing, checked};
 
 // 2^21
 const VERTEX_LIMIT: f64 = 2097152.0;
 
 fn is_near(v: Vector) -> bool
-    ensures { λ r. ⌜ r ≡ near-vector v ⌝ }
+    ensures { λ r. ⌜ r ≡ vector-within vertex-limit v ⌝ }
 {
     (v.x.abs() <= VERTEX_LIMIT) & (v.y.abs() <= VERTEX_LIMIT) & (v.z.abs() <= VERTEX_LIMIT)
 }

@@ -1,7 +1,7 @@
 -- The size is what `abs` answers.
-use Rattle.math.specs.Limits.{may-be-given}
+use Rattle.math.specs.Magnitude.{within}
 use Rattle.math.proofs.limits.is_given.Needs as need
 
 pub returns : need.returns
-unfolding may-be-given
+unfolding within
 returns c = cc

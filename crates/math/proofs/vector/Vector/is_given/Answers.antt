@@ -1,7 +1,7 @@
 -- Each coordinate is tested.
-use Rattle.math.specs.Limits.{vector-given}
+use Rattle.math.specs.Magnitude.{vector-within}
 use Rattle.math.proofs.vector.Vector.is_given.Needs as need
 
 pub returns : need.returns
-unfolding vector-given
+unfolding vector-within
 returns c = cc
