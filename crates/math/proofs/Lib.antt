@@ -1,6 +1,8 @@
+pub mod AzimuthMagnitude
 pub mod Magnitude
 pub mod OwnValue
 pub mod Parts
+pub mod Root
 pub mod RotationMagnitude
 pub mod Signs
 pub mod UnitMagnitude

@@ -4,7 +4,7 @@ use mathlib.Core.Path.{_≡_, refl, sym, ap, _∙_, subst}
 use mathlib.Core.Logic.{_⊎_, inl, inr}
 use mathlib.Core.Bool.{Bool, true, false, not, _&&_, _||_, cond, true≢false, Bool·beq}
 use Prim.Native.Nat.{ℕ, zero, suc, _+_, _-_, _*_, _/_, _%_, _^_, _≤_, _<_, compare}
-use native.Mathlib.Nat.{le-trans, le-of-eq, le-of-lt, eq-or-lt-of-le, mul-comm, mul-assoc, mul-left-comm, mul-right-comm, mul-mul-mul-comm, mul-le-mul, mul-le-mul-right, add-mul, add-le-add, mul-pos, lt-irrefl}
+use native.Mathlib.Nat.{le-refl, le-trans, le-of-eq, le-of-lt, eq-or-lt-of-le, mul-comm, mul-assoc, mul-left-comm, mul-right-comm, mul-mul-mul-comm, mul-le-mul, mul-le-mul-right, add-mul, add-le-add, mul-pos, lt-irrefl}
 use native.Mathlib.Omega.{arith}
 use lib.IntN.{ℤ}
 use lib.Dec.{T, ltb, eqb, eqb-refl, ltb→lt, lt→ltb, eqb→eq}
@@ -84,7 +84,7 @@ within-of-small (fin false n d) (inf s) k h = absurd h
 within-of-small (fin false n d) (fin s m e) k h = is-true _ (of-le (m * up e * down d) (n * up d * down e) h)
 
 -- ---- a larger bound
-small-more : (x : Float) (p q r s : ℕ) → 0 < q → p * s ≤ r * q → Small x p q → Small x r s
+pub small-more : (x : Float) (p q r s : ℕ) → 0 < q → p * s ≤ r * q → Small x p q → Small x r s
 small-more nan p q r s Q h k = k
 small-more (inf t) p q r s Q h k = k
 small-more (fin t m e) p q r s Q h k = through (m * up e) p r (down e) q s Q k h
@@ -102,6 +102,9 @@ order-of-bound b b′ k k′ h = bound-is (λ c. within b′ c ≡ true → num 
 
 pub within-more : (b b′ x : Float) → bound b ≡ true → bound b′ ≡ true → within b′ b ≡ true → within b x ≡ true → within b′ x ≡ true
 within-more b b′ x k k′ h w = within-of-small b′ x k′ (small-more x (num b) (den b) (num b′) (den b′) (den-pos b) (order-of-bound b b′ k k′ h) (small-of-within b x k w))
+
+pub within-self : (b : Float) → bound b ≡ true → within b b ≡ true
+within-self b B = within-of-small b b B (bound-is (λ c. Small c (num c) (den c)) (λ m e. le-refl (m * up e * down e)) b B)
 
 -- ---- rounding: the sign goes through it, and the order stays
 
@@ -131,7 +134,7 @@ within-round f s a c p q C Q h = is-true _ (subst (λ (z : Float). T (le z (roun
 
 -- ---- the operations, by any fractions that bound their arguments
 
-small-mul : (x y : Float) (p q r s : ℕ) → 0 < q → 0 < s → Small x p q → Small y r s → within (round binary64 false (p * r) (q * s)) (mul binary64 x y) ≡ true
+pub small-mul : (x y : Float) (p q r s : ℕ) → 0 < q → 0 < s → Small x p q → Small y r s → within (round binary64 false (p * r) (q * s)) (mul binary64 x y) ≡ true
 unfolding mul
 small-mul nan y p q r s Q S h k = absurd h
 small-mul (inf a) y p q r s Q S h k = absurd h
@@ -177,7 +180,7 @@ Large nan r s = ⊥
 Large (inf t) r s = ⊥
 Large (fin t n d) r s = (0 < n) × (r * down d ≤ n * up d * s)
 
-small-div : (x y : Float) (p q r s : ℕ) → 0 < q → 0 < r → Small x p q → Large y r s → within (round binary64 false (p * s) (r * q)) (div binary64 x y) ≡ true
+pub small-div : (x y : Float) (p q r s : ℕ) → 0 < q → 0 < r → Small x p q → Large y r s → within (round binary64 false (p * s) (r * q)) (div binary64 x y) ≡ true
 unfolding div
 small-div nan y p q r s Q R h k = absurd h
 small-div (inf a) y p q r s Q R h k = absurd h

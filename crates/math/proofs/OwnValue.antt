@@ -14,7 +14,7 @@ use lib.Ieee.Exact.{HasValue, round-exact}
 use lib.Ieee.Fits.{down-pos}
 use Rattle.std.proofs.shelf.Tests.{cases-lt}
 
-exponent-le : (k l : ℕ) → 2 ^ k ≤ 2 ^ l → k ≤ l
+pub exponent-le : (k l : ℕ) → 2 ^ k ≤ 2 ^ l → k ≤ l
 exponent-le k l h = elim (cases-lt l k) [ inl g ↦ absurd (lt-irrefl (2 ^ l) (lt-of-lt-of-le (pow-lt g) h)) | inr g ↦ g ]
 
 own-zero : (e : ℤ) → HasValue (round binary64 false (0 * up e) (down e)) false (0 * up e) (down e)
@@ -46,7 +46,7 @@ four true false c d h = absurd h
 four false b c d h = absurd h
 
 -- what the format asks of a value above zero: few digits, and an exponent within its range
-held : (s : Bool) (m : ℕ) (e : ℤ) → T (fits binary64 (fin s (suc m) e)) → (suc m < 2 ^ prec binary64) × (down e ≤ 2 ^ low binary64) × (suc m * up e < 2 ^ suc (emax binary64) * down e)
+pub held : (s : Bool) (m : ℕ) (e : ℤ) → T (fits binary64 (fin s (suc m) e)) → (suc m < 2 ^ prec binary64) × (down e ≤ 2 ^ low binary64) × (suc m * up e < 2 ^ suc (emax binary64) * down e)
 unfolding fits
 held s m e h =
     let t = four (eqb (suc m % 2) 1) (ltb (suc m) (2 ^ prec binary64)) (leb (down e) (2 ^ low binary64)) (ltb (suc m * up e) (2 ^ suc (emax binary64) * down e)) h in

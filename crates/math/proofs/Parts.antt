@@ -19,33 +19,36 @@ use Rattle.math.specs.Magnitude.{within}
 use Rattle.math.proofs.Magnitude.{bound, bound-is, no, to-T, Small, small-of-within, within-of-small, within-more, within-round}
 use Rattle.math.proofs.OwnValue.{own-value}
 
--- ---- what is rounded with no sign, and is within a bound, may stand as a bound
+-- ---- what is rounded with no sign may stand as a bound, or is the infinity
 
-units-bound : (b : Float) (q k : ℕ) → bound b ≡ true → within b (units binary64 false q k) ≡ true → bound (units binary64 false q k) ≡ true
-unfolding units odd within withSign le lt eq
-units-bound b q k B = go (ltb (q * 2 ^ k) (2 ^ (low binary64 + suc (emax binary64)))) q
+units-cases : (q k : ℕ) → (bound (units binary64 false q k) ≡ true) ⊎ (units binary64 false q k ≡ inf false)
+unfolding units odd
+units-cases q k = go (ltb (q * 2 ^ k) (2 ^ (low binary64 + suc (emax binary64)))) q
   where
-    infinite : (b : Float) → bound b ≡ true → within b (inf false) ≡ true → false ≡ true
-    infinite nan B h = no B
-    infinite (inf s) B h = no B
-    infinite (fin s m e) B h = h
-    go : (t : Bool) (q : ℕ) → within b (cond t (odd (suc (prec binary64)) false q k (low binary64)) (inf false)) ≡ true → bound (cond t (odd (suc (prec binary64)) false q k (low binary64)) (inf false)) ≡ true
-    go true zero h = refl
-    go true (suc q) h = refl
-    go false q h = infinite b B h
+    go : (t : Bool) (q : ℕ) → (bound (cond t (odd (suc (prec binary64)) false q k (low binary64)) (inf false)) ≡ true) ⊎ (cond t (odd (suc (prec binary64)) false q k (low binary64)) (inf false) ≡ inf false)
+    go true zero = inl refl
+    go true (suc q) = inl refl
+    go false q = inr refl
 
-pub round-bound : (b : Float) (a c : ℕ) → bound b ≡ true → within b (round binary64 false a c) ≡ true → bound (round binary64 false a c) ≡ true
-round-bound b a c B h =
+pub round-cases : (a c : ℕ) → (bound (round binary64 false a c) ≡ true) ⊎ (round binary64 false a c ≡ inf false)
+round-cases a c =
     let n = a * 2 ^ low binary64 in
     let k = Ieee.size (n / c) - prec binary64 in
     let u = c * 2 ^ k in
-    let q = nearest (n / u) (compare (n % u * 2) u) in
     let e = round-is binary64 false a c in
-    subst (λ (z : Float). bound z ≡ true) (sym e) (units-bound b q k B (subst (λ (z : Float). within b z ≡ true) e h))
+    elim (units-cases (nearest (n / u) (compare (n % u * 2) u)) k) [ inl b ↦ inl (ap bound e ∙ b) | inr i ↦ inr (e ∙ i) ]
+
+-- no bound is as large as an infinity
+pub finite-within : (b : Float) → bound b ≡ true → within b (inf false) ≡ true → false ≡ true
+unfolding within withSign le lt eq
+finite-within b B h = bound-is (λ c. within c (inf false) ≡ true → false ≡ true) (λ m e g. g) b B h
+
+pub round-bound : (b : Float) (a c : ℕ) → bound b ≡ true → within b (round binary64 false a c) ≡ true → bound (round binary64 false a c) ≡ true
+round-bound b a c B h = elim (round-cases a c) [ inl r ↦ r | inr i ↦ no (finite-within b B (subst (λ (z : Float). within b z ≡ true) i h)) ]
 
 -- ---- from a rounded value back to the fraction
 
-value-small : (x : Float) (a c p q : ℕ) → HasValue x false a c → Small x p q → a * q ≤ p * c
+pub value-small : (x : Float) (a c p q : ℕ) → HasValue x false a c → Small x p q → a * q ≤ p * c
 value-small nan a c p q v h = absurd v
 value-small (inf s) a c p q v h = absurd v
 value-small (fin s m e) a c p q v h = through a (m * up e) p c (down e) q (down-pos e) (le-of-eq (sym (v .1))) h

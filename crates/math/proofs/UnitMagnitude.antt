@@ -21,18 +21,18 @@ abbrev pub three-halves : Float
 three-halves = bits 0x3ff8_0000_0000_0000
 
 -- what a sum of at most four squares of numbers that may be given is within
-square : Float
+pub square : Float
 square = limit ⊗ limit
 
 pub limit-bound : bound limit ≡ true
 unfolding ofBits
 limit-bound = refl
 
-square-is-bound : bound square ≡ true
+pub square-is-bound : bound square ≡ true
 unfolding square ofBits mul
 square-is-bound = refl
 
-two-squares : bound (square ⊕ square) ≡ true
+pub two-squares : bound (square ⊕ square) ≡ true
 unfolding square ofBits mul add
 two-squares = refl
 
@@ -66,11 +66,11 @@ unfolding within withSign ofBits mul le
 past-high = refl
 
 module _ (x : Float) (g : within limit x ≡ true) where
-  squared-within : within square (x ⊗ x) ≡ true
+  pub squared-within : within square (x ⊗ x) ≡ true
   unfolding square
   squared-within = mul-within limit limit x x limit-bound limit-bound g g
 
-  squared-bound : bound (x ⊗ x) ≡ true
+  pub squared-bound : bound (x ⊗ x) ≡ true
   squared-bound = square-bound square x square-is-bound squared-within
 
 pub at-most-three-halves : (x : Float) → within unit-high (x ⊗ x) ≡ true → within three-halves x ≡ true
