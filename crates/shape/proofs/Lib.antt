@@ -1,0 +1,2 @@
+pub mod Azimuth
+pub mod Near

@@ -13,7 +13,7 @@ use Rattle.math.specs.Refusals.{Answer, done, refused}
 use Rattle.math.specs.Vectors2.{normalized}
 use Rattle.math.specs.declared.vector.Vector.{Vector}
 use Rattle.math.specs.declared.vector2.Vector2.{Vector2}
-use Rattle.shape.specs.Features.{Fields, checked, origin}
+use Rattle.shape.specs.Features.{Fields, origin}
 use Rattle.shape.specs.Ids.{packed, vertexHeader, edgeHeader, faceHeader}
 use Rattle.shape.specs.Supports.{Meaning}
 use Rattle.shape.specs.declared.feature_id.PackedFeatureId.{PackedFeatureId}
@@ -98,4 +98,4 @@ unfoldable pub cylinder-fields : Float → Float → Vector → Vector2 → Fiel
 cylinder-fields hh r dir az = cond (Ieee.lt (size (dir .y)) half) (side hh r az) (cap hh r dir az)
 
 unfoldable pub cylinder-meaning : Meaning Cylinder
-cylinder-meaning c dir hint = checked (cylinder-fields (c .«half_height») (c .radius) dir (azimuth dir hint))
+cylinder-meaning c dir hint = cylinder-fields (c .«half_height») (c .radius) dir (azimuth dir hint)

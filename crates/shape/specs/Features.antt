@@ -1,10 +1,12 @@
 -- A feature's fields as a plain row, which two features are compared by.
 use Prim.Native.Nat.{ℕ}
-use mathlib.Core.Bool.{Bool, cond}
+use mathlib.Core.Bool.{cond}
 use mathlib.Core.List.{List, [], _∷_}
+use lib.Dec.{ltb}
 use Rattle.math.specs.Floats.{zero}
+use Rattle.math.specs.Refusals.{Answer, done, refused}
 use Rattle.math.specs.declared.vector.Vector.{Vector}
-use Rattle.shape.specs.Nearness.{near-all}
+use Rattle.shape.specs.Nearness.{given-all}
 use Rattle.shape.specs.declared.feature_id.PackedFeatureId.{PackedFeatureId}
 use Rattle.shape.specs.declared.polygonal_feature3d.PolygonalFeature.{PolygonalFeature}
 
@@ -34,6 +36,10 @@ nothing = record {
   count = 0;
 }
 
--- these fields, or no vertices where one lies too far out
-abbrev pub checked : Fields → Fields
-checked f = cond (near-all (f .vertices)) f nothing
+-- Turned down with 2 where a coordinate may not be given, with 6 where there are more than four vertices.
+abbrev pub making : Fields → Answer (Unit {0})
+making f = cond (given-all (f .vertices)) (cond (ltb 4 (f .count)) (refused 6) (done tt)) (refused 2)
+
+-- what stands in the place after: the new fields, or the old ones where the making is turned down
+abbrev pub made : Fields → Fields → Fields
+made f old = cond (given-all (f .vertices)) (cond (ltb 4 (f .count)) old f) old

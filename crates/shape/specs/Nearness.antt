@@ -5,6 +5,7 @@ use mathlib.Core.List.{List}
 use lib.ListN.{getD}
 use lib.Ieee.{Float, nan}
 use Rattle.math.specs.Floats.{bits}
+use Rattle.math.specs.Limits.{limit}
 use Rattle.math.specs.Magnitude.{vector-within}
 use Rattle.math.specs.declared.vector.Vector.{Vector}
 
@@ -16,5 +17,13 @@ vertex-limit = bits 0x4140_0000_0000_0000
 abbrev pub vertex-at : List Vector → ℕ → Vector
 vertex-at vs i = getD vs i (record { x = nan; y = nan; z = nan })
 
-unfoldable pub near-all : List Vector → Bool
-near-all vs = vector-within vertex-limit (vertex-at vs 0) && vector-within vertex-limit (vertex-at vs 1) && vector-within vertex-limit (vertex-at vs 2) && vector-within vertex-limit (vertex-at vs 3)
+-- each of the four within a bound
+unfoldable pub all-within : Float → List Vector → Bool
+all-within b vs = vector-within b (vertex-at vs 0) && vector-within b (vertex-at vs 1) && vector-within b (vertex-at vs 2) && vector-within b (vertex-at vs 3)
+
+abbrev pub near-all : List Vector → Bool
+near-all vs = all-within vertex-limit vs
+
+-- all twelve coordinates may be given
+abbrev pub given-all : List Vector → Bool
+given-all vs = all-within limit vs

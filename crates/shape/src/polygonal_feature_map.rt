@@ -7,9 +7,11 @@ use math::vector::Vector;
 use math::vector2::Vector2;
 use math::wops;
 ghost use mathlib.Core.Path.{_≡_};
-ghost use mathlib.Core.Bool.{cond};
+ghost use mathlib.Core.Bool.{true, cond};
+ghost use Rattle.math.specs.Floats.{two};
+ghost use Rattle.math.specs.Magnitude.{vector2-within};
 ghost use Rattle.math.specs.Refusals.{told};
-ghost use Rattle.shape.specs.Features.{fields, checked};
+ghost use Rattle.shape.specs.Features.{fields};
 ghost use Rattle.shape.specs.Supports.{Meaning, hint-given, direction-given, supporting};
 ghost use Rattle.shape.specs.Cylinders.{azimuth, side, cap, cylinder-fields, cylinder-meaning};
 
@@ -39,7 +41,9 @@ fn is_hint_given(hint: Option<Vector>) -> bool
 
 // The azimuth that orients the feature of a round shape: from the hint where it lies off the axis, else from the direction, else along x.
 fn feature_azimuth(dir: Vector, hint: Option<Vector>) -> Vector2
-    ensures { λ r. ⌜ r ≡ azimuth dir hint ⌝ }
+    requires { ⌜ direction-given dir hint ≡ true ⌝ }
+    ensures value { λ r. ⌜ r ≡ azimuth dir hint ⌝ }
+    ensures bound { λ r. ⌜ vector2-within two r ≡ true ⌝ }
 {
     if let Some(h) = hint {
         if let Some(az) = Vector2::new(h.x, h.z).try_normalize() {
@@ -60,7 +64,8 @@ impl Cylinder {
         dir2: Vector2,
         out_features: &mut PolygonalFeature,
     )
-        ensures { λ _. ⌜ fields (now («out_features» .exit)) ≡ checked (cylinder-fields (now (self .entry) .«half_height») (now (self .entry) .radius) dir dir2) ⌝ }
+        requires { ⌜ vector2-within two dir2 ≡ true ⌝ }
+        ensures { λ _. ⌜ fields (now («out_features» .exit)) ≡ cylinder-fields (now (self .entry) .«half_height») (now (self .entry) .radius) dir dir2 ⌝ }
     {
         if dir.y.abs() < 0.5 {
             self.side_segment(dir2, out_features);
@@ -70,7 +75,8 @@ impl Cylinder {
     }
 
     fn side_segment(&self, dir2: Vector2, out_features: &mut PolygonalFeature)
-        ensures { λ _. ⌜ fields (now («out_features» .exit)) ≡ checked (side (now (self .entry) .«half_height») (now (self .entry) .radius) dir2) ⌝ }
+        requires { ⌜ vector2-within two dir2 ≡ true ⌝ }
+        ensures { λ _. ⌜ fields (now («out_features» .exit)) ≡ side (now (self .entry) .«half_height») (now (self .entry) .radius) dir2 ⌝ }
     {
         let lower = Vector::new(
             dir2.x * self.radius,
@@ -78,18 +84,18 @@ impl Cylinder {
             dir2.y * self.radius,
         );
         let upper = Vector::new(dir2.x * self.radius, self.half_height, dir2.y * self.radius);
-        PolygonalFeature::place(
-            [lower, upper, Vector::ZERO, Vector::ZERO],
-            PackedFeatureId::vertices([1, 11, 11, 11]),
-            PackedFeatureId::edges([0, 0, 0, 0]),
-            PackedFeatureId::packed_face(0),
-            2,
-            out_features,
-        );
+        *out_features = PolygonalFeature {
+            vertices: [lower, upper, Vector::ZERO, Vector::ZERO],
+            vids: PackedFeatureId::vertices([1, 11, 11, 11]),
+            eids: PackedFeatureId::edges([0, 0, 0, 0]),
+            fid: PackedFeatureId::packed_face(0),
+            num_vertices: 2,
+        };
     }
 
     fn cap_square(&self, dir: Vector, dir2: Vector2, out_features: &mut PolygonalFeature)
-        ensures { λ _. ⌜ fields (now («out_features» .exit)) ≡ checked (cap (now (self .entry) .«half_height») (now (self .entry) .radius) dir dir2) ⌝ }
+        requires { ⌜ vector2-within two dir2 ≡ true ⌝ }
+        ensures { λ _. ⌜ fields (now («out_features» .exit)) ≡ cap (now (self .entry) .«half_height») (now (self .entry) .radius) dir dir2 ⌝ }
     {
         let y = wops::copy_sign_to(dir.y, self.half_height);
         let vertices = [
@@ -99,23 +105,21 @@ impl Cylinder {
             Vector::new(dir2.y * self.radius, y, -dir2.x * self.radius),
         ];
         if dir.y < 0.0 {
-            PolygonalFeature::place(
+            *out_features = PolygonalFeature {
                 vertices,
-                PackedFeatureId::vertices([1, 3, 5, 7]),
-                PackedFeatureId::edges([2, 4, 6, 8]),
-                PackedFeatureId::packed_face(9),
-                4,
-                out_features,
-            );
+                vids: PackedFeatureId::vertices([1, 3, 5, 7]),
+                eids: PackedFeatureId::edges([2, 4, 6, 8]),
+                fid: PackedFeatureId::packed_face(9),
+                num_vertices: 4,
+            };
         } else {
-            PolygonalFeature::place(
+            *out_features = PolygonalFeature {
                 vertices,
-                PackedFeatureId::vertices([11, 13, 15, 17]),
-                PackedFeatureId::edges([12, 14, 16, 18]),
-                PackedFeatureId::packed_face(19),
-                4,
-                out_features,
-            );
+                vids: PackedFeatureId::vertices([11, 13, 15, 17]),
+                eids: PackedFeatureId::edges([12, 14, 16, 18]),
+                fid: PackedFeatureId::packed_face(19),
+                num_vertices: 4,
+            };
         }
     }
 }

@@ -1,26 +1,17 @@
 // Features made from their fields, in a place that the caller lends.
 use crate::feature_id::PackedFeatureId;
 use crate::polygonal_feature3d::PolygonalFeature;
+use math::refusal::Refusal;
 use math::vector::Vector;
 ghost use mathlib.Core.Path.{_≡_};
-ghost use Prim.Native.Nat.{_≤_};
-ghost use Rattle.math.specs.Magnitude.{vector-within};
-ghost use Rattle.shape.specs.Nearness.{vertex-limit, near-all};
-ghost use Rattle.shape.specs.Features.{Fields, fields, nothing, checked};
+ghost use Rattle.math.specs.Refusals.{told};
+ghost use Rattle.shape.specs.Nearness.{given-all};
+ghost use Rattle.shape.specs.Features.{Fields, fields, nothing, making, made};
 
-// 2^21
-const VERTEX_LIMIT: f64 = 2097152.0;
-
-fn is_near(v: Vector) -> bool
-    ensures { λ r. ⌜ r ≡ vector-within vertex-limit v ⌝ }
+fn are_given(v: [Vector; 4]) -> bool
+    ensures { λ r. ⌜ r ≡ given-all v ⌝ }
 {
-    (v.x.abs() <= VERTEX_LIMIT) & (v.y.abs() <= VERTEX_LIMIT) & (v.z.abs() <= VERTEX_LIMIT)
-}
-
-fn are_near(v: [Vector; 4]) -> bool
-    ensures { λ r. ⌜ r ≡ near-all v ⌝ }
-{
-    is_near(v[0]) & is_near(v[1]) & is_near(v[2]) & is_near(v[3])
+    v[0].is_given() & v[1].is_given() & v[2].is_given() & v[3].is_given()
 }
 
 impl PolygonalFeature {
@@ -37,28 +28,31 @@ impl PolygonalFeature {
         }
     }
 
-    // These fields into `out`; the feature with no vertices where a vertex lies beyond 2^21.
-    pub(crate) fn place(
+    // The feature with these fields into `out`. Turned down with 2 where a coordinate may not be given, an unused vertex's too, with 6 where there are more than four vertices.
+    pub fn make(
         vertices: [Vector; 4],
         vids: [PackedFeatureId; 4],
         eids: [PackedFeatureId; 4],
         fid: PackedFeatureId,
         num_vertices: usize,
         out: &mut PolygonalFeature,
-    )
-        requires { ⌜ «num_vertices» ≤ 4 ⌝ }
-        ensures { λ _. ⌜ fields (now (out .exit)) ≡ checked (record { vertices = vertices; vids = vids; eids = eids; fid = fid; count = «num_vertices» }) ⌝ }
+    ) -> Result<(), Refusal>
+        ensures answer { λ r. ⌜ told r ≡ making (record { vertices = vertices; vids = vids; eids = eids; fid = fid; count = «num_vertices» }) ⌝ }
+        ensures after { λ r. ⌜ fields (now (out .exit)) ≡ made (record { vertices = vertices; vids = vids; eids = eids; fid = fid; count = «num_vertices» }) (fields (now (out .entry))) ⌝ }
     {
-        if are_near(vertices) {
-            *out = PolygonalFeature {
-                vertices,
-                vids,
-                eids,
-                fid,
-                num_vertices,
-            };
-        } else {
-            *out = PolygonalFeature::new();
+        if !are_given(vertices) {
+            return Err(Refusal::NumberOutOfRange);
         }
+        if num_vertices > 4 {
+            return Err(Refusal::TooManyVertices);
+        }
+        *out = PolygonalFeature {
+            vertices,
+            vids,
+            eids,
+            fid,
+            num_vertices,
+        };
+        Ok(())
     }
 }

@@ -1,4 +1,4 @@
--- .
+-- The size of y decides between the side and a cap.
 use borrow.Author.Needs.{needs}
 use Rattle.shape.specs.Cylinders.{cylinder-fields}
 use Rattle.shape.proofs.cylinder.Cylinder.support_feature_with_azimuth.Needs as need

@@ -1,12 +1,7 @@
--- The four zeros lie near, as antt computes.
-use mathlib.Core.Path.{refl}
+-- Four vertices at the origin lie near.
 use native.Mathlib.Omega.{arith}
-use lib.Ieee.{ofBits, le}
-use Rattle.std.specs.Floats.{withSign}
-use Rattle.math.specs.Magnitude.{within, vector-within}
-use Rattle.shape.specs.Nearness.{near-all}
+use Rattle.shape.proofs.Near.{nothing-near}
 use Rattle.shape.proofs.polygonal_feature3d.PolygonalFeature.new.Needs as need
 
 pub ghost-result : need.ghost-result
-unfolding within vector-within near-all ofBits le withSign
-ghost-result c = (refl, omega arith)
+ghost-result c = (nothing-near, omega arith)
