@@ -1,4 +1,5 @@
 pub mod AzimuthMagnitude
+pub mod Fraction
 pub mod Magnitude
 pub mod OwnValue
 pub mod Parts

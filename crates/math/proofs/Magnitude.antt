@@ -4,7 +4,7 @@ use mathlib.Core.Path.{_≡_, refl, sym, ap, _∙_, subst}
 use mathlib.Core.Logic.{_⊎_, inl, inr}
 use mathlib.Core.Bool.{Bool, true, false, not, _&&_, _||_, cond, true≢false, Bool·beq}
 use Prim.Native.Nat.{ℕ, zero, suc, _+_, _-_, _*_, _/_, _%_, _^_, _≤_, _<_, compare}
-use native.Mathlib.Nat.{le-refl, le-trans, le-of-eq, le-of-lt, eq-or-lt-of-le, mul-comm, mul-assoc, mul-left-comm, mul-right-comm, mul-mul-mul-comm, mul-le-mul, mul-le-mul-right, add-mul, add-le-add, mul-pos, lt-irrefl}
+use native.Mathlib.Nat.{le-refl, le-trans, le-of-eq, le-of-lt, eq-or-lt-of-le, mul-comm, mul-assoc, mul-left-comm, mul-right-comm, mul-mul-mul-comm, mul-le-mul, mul-le-mul-right, add-mul, add-le-add, mul-pos, lt-irrefl, lt-of-le-of-lt, lt-of-lt-of-le, mul-lt-mul-of-pos-right, lt-of-mul-lt-mul-right}
 use native.Mathlib.Omega.{arith}
 use lib.IntN.{ℤ}
 use lib.Dec.{T, ltb, eqb, eqb-refl, ltb→lt, lt→ltb, eqb→eq}
@@ -249,3 +249,25 @@ difference-within b x y B own X Y h k =
         let x : m * up e * down d * q ≤ p * (down e * down d) = simp (mul-assoc, mul-comm, mul-left-comm) (simp (mul-assoc, mul-comm) at (mul-le-mul-right (down d) (small-of-within b (fin false m e) B g))) in
         let y : n * up d * down e * q ≤ p * (down e * down d) = simp (mul-assoc, mul-comm, mul-left-comm) (simp (mul-assoc, mul-comm) at (mul-le-mul-right (down e) (small-of-within b (fin false n d) B j))) in
         subst (λ (z : Float). within z s ≡ true) own (apart-within (m * up e * down d) (n * up d * down e) (down e * down d) p q (mul-pos (down-pos e) (down-pos d)) (den-pos b) x y)
+
+-- ---- strictly below a larger bound
+
+ltb-of-lt : (a b : ℕ) → a < b → ltb a b ≡ true
+ltb-of-lt a b h = is-true _ (lt→ltb a b h)
+
+pub below-of-within : (b l x : Float) → bound b ≡ true → lt b l ≡ true → within b x ≡ true → lt (size x) l ≡ true
+unfolding lt withSign
+below-of-within b l x B h w = bound-is (λ b′. lt b′ l ≡ true → Small x (num b′) (den b′) → lt (size x) l ≡ true) (λ n d g k. below-written n d l x g k) b B h (small-of-within b x B w)
+  where
+    below-written : (n : ℕ) (d : ℤ) (l x : Float) → lt (fin false n d) l ≡ true → Small x (n * up d) (down d) → lt (size x) l ≡ true
+    below-written n d l nan g k = absurd k
+    below-written n d l (inf s) g k = absurd k
+    below-written n d nan (fin s m e) g k = no g
+    below-written n d (inf t) (fin s m e) g k = g
+    below-written n d (fin true j i) (fin s m e) g k = no g
+    below-written n d (fin false j i) (fin s m e) g k =
+        let cross : m * up e * down i * down d < j * up i * down e * down d =
+          lt-of-le-of-lt
+          (le-trans (le-of-eq (mul-right-comm (m * up e) (down i) (down d))) (le-trans (mul-le-mul-right (down i) k) (le-of-eq (mul-right-comm (n * up d) (down e) (down i)))))
+          (lt-of-lt-of-le (mul-lt-mul-of-pos-right (ltb→lt (n * up d * down i) (j * up i * down d) (to-T _ g)) (down-pos e)) (le-of-eq (mul-right-comm (j * up i) (down d) (down e)))) in
+        ltb-of-lt (m * up e * down i) (j * up i * down e) (lt-of-mul-lt-mul-right (down d) cross)
