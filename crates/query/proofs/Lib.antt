@@ -1,2 +1,4 @@
 pub mod Buffers
+pub mod ClipMagnitude
+pub mod ContactMagnitude
 pub mod Numbers

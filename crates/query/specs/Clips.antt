@@ -5,8 +5,9 @@ use lib.Ieee as Ieee
 use lib.Ieee.{Float}
 use Rattle.std.specs.declared.option.Option.{Option}
 use Rattle.std.specs.declared.option.Option.the-variants.{Some, None}
-use Rattle.math.specs.Floats.{_⊖_, _⊘_, zero}
+use Rattle.math.specs.Floats.{_⊖_, _⊘_, bits, zero}
 use Rattle.math.specs.Limits.{vector-given}
+use Rattle.math.specs.Magnitude.{vector-within}
 use Rattle.math.specs.Refusals.{Answer, done, refused}
 use Rattle.math.specs.Vectors.{added, subtracted, scaled, dotted}
 use Rattle.math.specs.declared.vector.Vector.{Vector}
@@ -18,6 +19,13 @@ Segment = Vector × Vector
 -- a point of each segment, and where it lies: 0 at the first vertex, 1 between, 2 at the second vertex
 abbrev pub Clip : Type 0
 Clip = Vector × Vector × ℕ × ℕ
+
+-- 75 × 2^21: how far a clip's points may lie from the origin, in each coordinate
+abbrev pub clip-limit : Float
+clip-limit = bits 0x41a2_c000_0000_0000
+
+abbrev pub clip-near : Clip → Bool
+clip-near c = vector-within clip-limit (c .0) && vector-within clip-limit (c .1)
 
 -- how far a point lies along the first segment
 unfoldable pub product : Segment → Vector → Vector → Float

@@ -1,12 +1,10 @@
 -- A contact as a plain row, which two contacts are compared by, and the making of one.
-use mathlib.Core.Bool.{Bool, true, false, cond}
+use mathlib.Core.Bool.{Bool, true, false}
 use lib.Ieee.{Float}
 use Rattle.std.specs.declared.option.Option.{Option}
 use Rattle.std.specs.declared.option.Option.the-variants.{Some, None}
-use Rattle.math.specs.Floats.{zero}
 use Rattle.math.specs.declared.vector.Vector.{Vector}
 use Rattle.shape.specs.declared.feature_id.PackedFeatureId.{PackedFeatureId}
-use Rattle.query.specs.Bounds.{bounded}
 use Rattle.query.specs.declared.contact_manifold.TrackedContact.{TrackedContact}
 
 pub record Contact (D : Type 0) : Type 0 where
@@ -20,15 +18,9 @@ pub record Contact (D : Type 0) : Type 0 where
 abbrev pub seen : {D : Type 0} → TrackedContact D → Contact D
 seen c = record { p1 = c .«local_p1»; p2 = c .«local_p2»; dist = c .dist; fid1 = c .fid1; fid2 = c .fid2; datum = c .«data» }
 
-abbrev pub origin : Vector
-origin = record { x = zero; y = zero; z = zero }
-
--- a new contact, zeros in place of numbers past the bounds
+-- a new contact
 unfoldable pub fresh : {D : Type 0} → D → Vector → Vector → PackedFeatureId → PackedFeatureId → Float → Contact D
-fresh datum p1 p2 fid1 fid2 dist =
-    cond (bounded p1 p2 dist)
-    (record { p1 = p1; p2 = p2; dist = dist; fid1 = fid1; fid2 = fid2; datum = datum })
-    (record { p1 = origin; p2 = origin; dist = zero; fid1 = fid1; fid2 = fid2; datum = datum })
+fresh datum p1 p2 fid1 fid2 dist = record { p1 = p1; p2 = p2; dist = dist; fid1 = fid1; fid2 = fid2; datum = datum }
 
 -- points and ids exchanged where the flag is set
 unfoldable pub turned : {D : Type 0} → Bool → D → Vector → Vector → PackedFeatureId → PackedFeatureId → Float → Contact D

@@ -69,6 +69,10 @@ edge-of f = (vertex-at (f .vertices) 0, vertex-at (f .vertices) 1)
 abbrev pub moved : Pose → Segment → Segment
 moved pose e = (transformed pose (e .0), transformed pose (e .1))
 
+-- a pose and an axis that a call accepts
+unfoldable pub framed : Pose → Vector → Bool
+framed pose axis = pose-given pose && vector-given axis && unit-rotation (pose .rotation) && unit-vector axis
+
 unfoldable pub edge-rule : {D : Type 0} → Bool → D → Pose → Fields → Vector → Fields → Answer (Option (Contact D × Contact D))
 edge-rule flip datum pose f1 axis f2 =
     let basis = plane-basis axis in

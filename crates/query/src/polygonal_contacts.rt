@@ -11,10 +11,12 @@ use math::wops;
 use shape::feature_id::PackedFeatureId;
 use shape::polygonal_feature3d::PolygonalFeature;
 ghost use mathlib.Core.Path.{_≡_};
+ghost use mathlib.Core.Bool.{true};
+ghost use Rattle.query.specs.Clips.{clip-near};
 ghost use Rattle.math.specs.Refusals.{told-as};
 ghost use Rattle.shape.specs.Features.{fields};
 ghost use Rattle.query.specs.Contacts.{seen, seen-both};
-ghost use Rattle.query.specs.Edges.{projected, edge-tangent, crossing, feature-at, clip-contact, edge-rule, edging};
+ghost use Rattle.query.specs.Edges.{framed, projected, edge-tangent, crossing, feature-at, clip-contact, edge-rule, edging};
 
 // cos(pi / 8): edges are parallel where the cosine of their angle is no smaller in size.
 const COS_FRAC_PI_8: f64 = 0.92387953251;
@@ -49,6 +51,7 @@ fn clip_edges<D: ContactData>(
     face2: &PolygonalFeature,
     flipped: bool,
 ) -> Result<Option<(TrackedContact<D>, TrackedContact<D>)>, Refusal>
+    requires { ⌜ framed (now pos12) «sep_axis1» ≡ true ⌝ }
     ensures { λ r. ⌜ told-as seen-both r ≡ edge-rule flipped (D·ContactData .initial) (now (pos12 .entry)) (fields (now (face1 .entry))) «sep_axis1» (fields (now (face2 .entry))) ⌝ }
 {
     let edge1 = (face1.vertices[0], face1.vertices[1]);
@@ -105,6 +108,8 @@ fn contact_at<D: ContactData>(
     flipped: bool,
     clip: ClippingPoints,
 ) -> TrackedContact<D>
+    requires fit { ⌜ framed (now pos12) «sep_axis1» ≡ true ⌝ }
+    requires near { ⌜ clip-near clip ≡ true ⌝ }
     ensures { λ r. ⌜ seen r ≡ clip-contact flipped (D·ContactData .initial) (now (pos12 .entry)) (fields (now (face1 .entry))) «sep_axis1» (fields (now (face2 .entry))) clip ⌝ }
 {
     TrackedContact::flipped(

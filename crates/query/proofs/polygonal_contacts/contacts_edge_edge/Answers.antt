@@ -1,7 +1,11 @@
 -- Each test decides one `cond` of the definition.
 use borrow.Author.Needs.{needs}
-use Rattle.query.specs.Edges.{edging}
+use Rattle.query.specs.Edges.{framed, edging}
 use Rattle.query.proofs.polygonal_contacts.contacts_edge_edge.Needs as need
+
+pub clip-edges-requires : need.clip-edges-requires
+unfolding framed
+clip-edges-requires g c κs = search needs
 
 pub returns-then-not-is-given : need.returns-then-not-is-given
 unfolding edging
