@@ -10,9 +10,9 @@ use query::contact_line::CONTACT_LINE_LEN;
 use query::contact_manifold::TrackedContact;
 use query::polygonal_contacts;
 use shape::cylinder::Cylinder;
-use shape::polygonal_feature3d::PolygonalFeature;
 use shape::polygonal_feature_map::CylinderFeatures;
 use shape::polygonal_feature_map::PolygonalFeatureMap;
+use shape::polygonal_feature3d::PolygonalFeature;
 use std::error::AnyError;
 use std::io::Write;
 
@@ -44,7 +44,10 @@ fn meet() -> Result<Option<(Contact, Contact)>, Refusal> {
     let cylinder = Cylinder::new(2.0, 1.0)?;
     let axis1 = Vector::new(1.0, 0.0, 0.0);
     let axis2 = Vector::new(-1.0, 0.0, 0.0);
-    let pos12 = Pose::new(Rotation::new(Vector::ZERO, 1.0), Vector::new(1.75, 0.0, 0.0));
+    let pos12 = Pose::new(
+        Rotation::new(Vector::ZERO, 1.0),
+        Vector::new(1.75, 0.0, 0.0),
+    );
     let mut feature1 = PolygonalFeature::new();
     let mut feature2 = PolygonalFeature::new();
     cylinder.local_support_feature(axis1, None, &mut feature1)?;

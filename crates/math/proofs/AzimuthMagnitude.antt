@@ -37,7 +37,7 @@ power-value t u T′ U =
     let l = low binary64 in
     let j = t + (l - u) in
     let e : 2 ^ t * 2 ^ l ≡ 1 * 2 ^ j * 2 ^ u =
-      ap (λ (x : ℕ). 2 ^ t * x) (ap (λ (x : ℕ). 2 ^ x) (sym (back l u U)) ∙ pow-add 2 (l - u) u) ∙ sym (mul-assoc (2 ^ t) (2 ^ (l - u)) (2 ^ u)) ∙ ap (λ (x : ℕ). x * 2 ^ u) (sym (pow-add 2 t (l - u)) ∙ sym (one-mul (2 ^ j))) in
+    ap (λ (x : ℕ). 2 ^ t * x) (ap (λ (x : ℕ). 2 ^ x) (sym (back l u U)) ∙ pow-add 2 (l - u) u) ∙ sym (mul-assoc (2 ^ t) (2 ^ (l - u)) (2 ^ u)) ∙ ap (λ (x : ℕ). x * 2 ^ u) (sym (pow-add 2 t (l - u)) ∙ sym (one-mul (2 ^ j))) in
     let room : j < l + suc (emax binary64) = omega arith in
     let fine : 1 * 2 ^ j < 2 ^ (l + suc (emax binary64)) = subst (λ (x : ℕ). x < 2 ^ (l + suc (emax binary64))) (sym (one-mul (2 ^ j))) (pow-lt room) in
     round-exact binary64 false (2 ^ t) (2 ^ u) 1 j (pow-pos u) (lit< tt) fine e
@@ -206,19 +206,23 @@ choice (suc n) d = by-exponent d
   where
     j : ℕ
     j = Ieee.size (suc n) - 1
+
     some : 0 < Ieee.size (suc n)
     some = elim (cases-lt 0 (Ieee.size (suc n))) [ inl h ↦ h | inr h ↦ absurd (no-digits (Ieee.size (suc n)) h (size-lt (suc n))) ]
       where
         no-digits : (k : ℕ) → k ≤ 0 → suc n < 2 ^ k → ⊥
         no-digits zero h l = omega arith
         no-digits (suc k) h l = omega arith
+
     lower : 2 ^ j ≤ suc n
     lower = size-reaches (suc n) j (omega (arith, some))
+
     upper : suc n < 2 ^ suc j
     upper = subst (λ (k : ℕ). suc n < 2 ^ k) (whole-size (Ieee.size (suc n)) some) (size-lt (suc n))
       where
         whole-size : (k : ℕ) → 0 < k → k ≡ suc (k - 1)
         whole-size k h = omega arith
+
     by-exponent : (d : ℤ) → Choice (suc n) d
     by-exponent (pos k) = whole-choice (suc n) j lower upper k
     by-exponent (negsuc k) =
@@ -263,7 +267,7 @@ module _ (s : Bool) (n : ℕ) (d : ℤ) (m : ℕ) (e : ℤ) (F : T (fits binary6
       let q = 2 ^ u * 2 ^ u in
       let z = fin s n d in
       let cross : p * (down d * down d) ≤ n * up d * (n * up d) * q =
-        le-trans (le-of-eq (mul-mul-mul-comm (2 ^ t) (2 ^ t) (down d) (down d))) (le-trans (mul-le-mul l l) (le-of-eq (mul-mul-mul-comm (n * up d) (2 ^ u) (n * up d) (2 ^ u)))) in
+      le-trans (le-of-eq (mul-mul-mul-comm (2 ^ t) (2 ^ t) (down d) (down d))) (le-trans (mul-le-mul l l) (le-of-eq (mul-mul-mul-comm (n * up d) (2 ^ u) (n * up d) (2 ^ u)))) in
       let r = round binary64 false p q in
       let below : within (z ⊗ z) r ≡ true = subst (λ (b : Float). within b r ≡ true) (sym (square-is s n d)) (within-round binary64 false p q (n * up d * (n * up d)) (down d * down d) (mul-pos (pow-pos u) (pow-pos u)) (mul-pos (down-pos d) (down-pos d)) cross) in
       let inside : within S r ≡ true = within-more (z ⊗ z) S r (square-bound S z refl Q) refl Q below in

@@ -70,7 +70,7 @@ scale-le x y k h = mul-le-mul-right k h
 scale-zero : (x k : ℕ) → x ≡ 0 → x * k ≡ 0
 scale-zero x k h = ap (λ (z : ℕ). z * k) h ∙ zero-mul k
 
-at-most-scale : (s : Bool) (x : ℕ) (t : Bool) (y k : ℕ) → AtMost s x t y → AtMost s (x * k) t (y * k)
+pub at-most-scale : (s : Bool) (x : ℕ) (t : Bool) (y k : ℕ) → AtMost s x t y → AtMost s (x * k) t (y * k)
 at-most-scale false x false y k h = scale-le x y k h
 at-most-scale false x true y k h = (scale-zero x k (h .0), scale-zero y k (h .1))
 at-most-scale true x false y k h = tt
@@ -88,7 +88,7 @@ dist-scale true x false y k = sym (add-mul x y k)
 
 -- ---- floats by sign and size
 
-at-most-of-not-lt : (s : Bool) (x : ℕ) (t : Bool) (y : ℕ) → below s x t y ≡ false → AtMost t y s x
+pub at-most-of-not-lt : (s : Bool) (x : ℕ) (t : Bool) (y : ℕ) → below s x t y ≡ false → AtMost t y s x
 at-most-of-not-lt false x false y h = ltb-false x y h
 at-most-of-not-lt false x true y h = tt
 at-most-of-not-lt true x false y h = let z = ltb-false 0 (x + y) h in (omega arith, omega arith)
@@ -160,7 +160,7 @@ module _ (sa : Bool) (ma : ℕ) (ea : ℤ) (sb : Bool) (mb : ℕ) (eb : ℤ) (sc
       let db = down eb in
       let dc = down ec in
       let p : AtMost sa (A * dc * db) sb (B * dc * da) =
-        subst (λ (x : ℕ). AtMost sa x sb (B * dc * da)) (mul-right-comm A db dc) (subst (λ (x : ℕ). AtMost sa (A * db * dc) sb x) (mul-right-comm B da dc) (at-most-scale sa (A * db) sb (B * da) dc k)) in
+      subst (λ (x : ℕ). AtMost sa x sb (B * dc * da)) (mul-right-comm A db dc) (subst (λ (x : ℕ). AtMost sa (A * db * dc) sb x) (mul-right-comm B da dc) (at-most-scale sa (A * db) sb (B * da) dc k)) in
       let l : dist sa (A * dc * db) sc (C * da * db) ≡ gap sa ma ea sc mc ec * db = dist-scale sa (A * dc) sc (C * da) db in
       let r : dist sb (B * dc * da) sc (C * da * db) ≡ gap sb mb eb sc mc ec * da = ap (λ (x : ℕ). dist sb (B * dc * da) sc x) (mul-right-comm C da db) ∙ dist-scale sb (B * dc) sc (C * db) da in
       le-trans (le-of-eq (sym l)) (le-trans (dist-mono sa (A * dc * db) sb (B * dc * da) sc (C * da * db) (at-most-scale sc (C * da) sa (A * dc) db h) p) (le-of-eq r))
@@ -171,7 +171,7 @@ module _ (sa : Bool) (ma : ℕ) (ea : ℤ) (sb : Bool) (mb : ℕ) (eb : ℤ) (sc
       let db = down eb in
       let dc = down ec in
       let p : AtMost sc (C * db * da) sa (A * db * dc) =
-        subst (λ (x : ℕ). AtMost sc x sa (A * db * dc)) (mul-right-comm C da db) (subst (λ (x : ℕ). AtMost sc (C * da * db) sa x) (mul-right-comm A dc db) (at-most-scale sc (C * da) sa (A * dc) db h)) in
+      subst (λ (x : ℕ). AtMost sc x sa (A * db * dc)) (mul-right-comm C da db) (subst (λ (x : ℕ). AtMost sc (C * da * db) sa x) (mul-right-comm A dc db) (at-most-scale sc (C * da) sa (A * dc) db h)) in
       let l : dist sb (B * da * dc) sa (A * db * dc) ≡ gap sb mb eb sa ma ea * dc = dist-scale sb (B * da) sa (A * db) dc in
       let r : dist sb (B * da * dc) sc (C * db * da) ≡ gap sb mb eb sc mc ec * da = ap (λ (x : ℕ). dist sb x sc (C * db * da)) (mul-right-comm B da dc) ∙ dist-scale sb (B * dc) sc (C * db) da in
       le-trans (le-of-eq (sym l)) (le-trans (dist-mono-high sa (A * db * dc) sb (B * da * dc) sc (C * db * da) p (at-most-scale sa (A * db) sb (B * da) dc k)) (le-of-eq r))
@@ -183,7 +183,7 @@ module _ (sa : Bool) (ma : ℕ) (ea : ℤ) (sb : Bool) (mb : ℕ) (eb : ℤ) (sc
       let n = gap sa ma ea sc mc ec in
       let m = gap sb mb eb sc mc ec in
       let cross : n * (down eb * down ec) ≤ m * (down ea * down ec) =
-        le-trans (le-of-eq (sym (mul-assoc n (down eb) (down ec)))) (le-trans (mul-le-mul-right (down ec) (gap-order h k)) (le-of-eq (mul-assoc m (down ea) (down ec)))) in
+      le-trans (le-of-eq (sym (mul-assoc n (down eb) (down ec)))) (le-trans (mul-le-mul-right (down ec) (gap-order h k)) (le-of-eq (mul-assoc m (down ea) (down ec)))) in
       let rounded : within (round binary64 false m (down eb * down ec)) (round binary64 false n (down ea * down ec)) ≡ true = within-round binary64 false n (down ea * down ec) m (down eb * down ec) (mul-pos (down-pos ea) (down-pos ec)) (mul-pos (down-pos eb) (down-pos ec)) cross in
       subst (λ (b : Float). within b x ≡ true) (sym (size-difference sb mb eb sc mc ec))
       (within-of-size (round binary64 false m (down eb * down ec)) x (round binary64 false n (down ea * down ec)) (size-difference sa ma ea sc mc ec ∙ sym (size-round binary64 false n (down ea * down ec))) ∙ rounded)
@@ -212,13 +212,13 @@ gap-unit s m e t n d F G h =
       | inl l ↦
           let step : down d ≡ 2 ^ (j .0 - i .0) * down e = j .1 ∙ ap (λ (k : ℕ). 2 ^ k) (sym (sub-add (j .0) (i .0) (omega arith))) ∙ pow-add 2 (j .0 - i .0) (i .0) ∙ ap (λ (k : ℕ). 2 ^ (j .0 - i .0) * k) (sym (i .1)) in
           let whole : gap s m e t n d ≡ dist s (m * up e * 2 ^ (j .0 - i .0)) t (n * up d) * down e =
-            ap (λ (k : ℕ). dist s k t (n * up d * down e)) (ap (λ (k : ℕ). m * up e * k) step ∙ sym (mul-assoc (m * up e) (2 ^ (j .0 - i .0)) (down e))) ∙ dist-scale s (m * up e * 2 ^ (j .0 - i .0)) t (n * up d) (down e) in
+          ap (λ (k : ℕ). dist s k t (n * up d * down e)) (ap (λ (k : ℕ). m * up e * k) step ∙ sym (mul-assoc (m * up e) (2 ^ (j .0 - i .0)) (down e))) ∙ dist-scale s (m * up e * 2 ^ (j .0 - i .0)) t (n * up d) (down e) in
           let some : down e ≤ gap s m e t n d = subst (λ (k : ℕ). down e ≤ k) (sym whole) (some-times _ (down e) (subst (λ (k : ℕ). 0 < k) whole h)) in
           le-trans (mul-le-mul-right (down d) some) (mul-le-mul-left (gap s m e t n d) (fits-down t n d G))
       | inr l ↦
           let step : down e ≡ 2 ^ (i .0 - j .0) * down d = i .1 ∙ ap (λ (k : ℕ). 2 ^ k) (sym (sub-add (i .0) (j .0) l)) ∙ pow-add 2 (i .0 - j .0) (j .0) ∙ ap (λ (k : ℕ). 2 ^ (i .0 - j .0) * k) (sym (j .1)) in
           let whole : gap s m e t n d ≡ dist s (m * up e) t (n * up d * 2 ^ (i .0 - j .0)) * down d =
-            ap (λ (k : ℕ). dist s (m * up e * down d) t k) (ap (λ (k : ℕ). n * up d * k) step ∙ sym (mul-assoc (n * up d) (2 ^ (i .0 - j .0)) (down d))) ∙ dist-scale s (m * up e) t (n * up d * 2 ^ (i .0 - j .0)) (down d) in
+          ap (λ (k : ℕ). dist s (m * up e * down d) t k) (ap (λ (k : ℕ). n * up d * k) step ∙ sym (mul-assoc (n * up d) (2 ^ (i .0 - j .0)) (down d))) ∙ dist-scale s (m * up e) t (n * up d * 2 ^ (i .0 - j .0)) (down d) in
           let some : down d ≤ gap s m e t n d = subst (λ (k : ℕ). down d ≤ k) (sym whole) (some-times _ (down d) (subst (λ (k : ℕ). 0 < k) whole h)) in
           le-trans (le-of-eq (mul-comm (down e) (down d))) (le-trans (mul-le-mul-right (down e) some) (mul-le-mul-left (gap s m e t n d) (fits-down s m e F)))
     ]
@@ -293,9 +293,11 @@ module _ (sa : Bool) (ma : ℕ) (ea : ℤ) (sb : Bool) (mb : ℕ) (eb : ℤ) (sc
       apart : (n : ℕ) → (n ≡ 0 → ⊥) → 0 < n
       apart zero h = absurd (h refl)
       apart (suc n) h = omega arith
+
       above-zero : (x y : ℕ) → 0 < y → 1 * y ≤ x * 2 ^ low binary64 → 0 < x
       above-zero zero y Y h = absurd (lt-irrefl 0 (lt-of-lt-of-le Y (le-trans (le-of-eq (sym (one-mul y))) (le-trans h (le-of-eq (zero-mul (2 ^ low binary64)))))))
       above-zero (suc x) y Y h = omega arith
+
       bounded : (n d : ℕ) → size (b ⊖ c) ≡ round binary64 false n d → bound (round binary64 false n d) ≡ true
       bounded n d e =
           elim (round-cases n d) [
@@ -327,8 +329,7 @@ squeezed k (fin sa ma ea) (fin sb mb eb) (fin sc mc ec) K A B C h j n =
     let lo = at-most-of-not-lt sa (ma * up ea * down ec) sc (mc * up ec * down ea) h in
     let hi = at-most-of-not-lt sb (mb * up eb * down ea) sa (ma * up ea * down eb) j in
     let z : gap sb mb eb sc mc ec ≡ 0 = dist-of-level sc (mc * up ec * down eb) sb (mb * up eb * down ec) n in
-    let nothing : gap sb mb eb sc mc ec * down ea ≡ 0 = ap (λ (x : ℕ). x * down ea) z ∙ zero-mul (down ea) in
-    (
+    let nothing : gap sb mb eb sc mc ec * down ea ≡ 0 = ap (λ (x : ℕ). x * down ea) z ∙ zero-mul (down ea) in (
       level-of-dist sc (mc * up ec * down ea) sa (ma * up ea * down ec) (vanishes (gap sa ma ea sc mc ec) (down eb) (down-pos eb) (le-trans (gap-order sa ma ea sb mb eb sc mc ec lo hi) (le-of-eq nothing))),
       level-of-dist sa (ma * up ea * down eb) sb (mb * up eb * down ea) (vanishes (gap sb mb eb sa ma ea) (down ec) (down-pos ec) (le-trans (gap-order-high sa ma ea sb mb eb sc mc ec lo hi) (le-of-eq nothing))),
     )

@@ -1,6 +1,8 @@
 pub mod AzimuthMagnitude
 pub mod Fraction
+pub mod Largest
 pub mod Magnitude
+pub mod Order
 pub mod OwnValue
 pub mod Parts
 pub mod Root

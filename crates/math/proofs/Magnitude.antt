@@ -151,9 +151,11 @@ sum-within a b x y c p q C Q h = by-sign (Bool·beq a b)
   where
     at-most : (n : ℕ) → n ≤ x + y → n * q ≤ p * c
     at-most n l = le-trans (mul-le-mul-right q l) h
+
     by-order : (t : Bool) → within (round binary64 false p q) (cond t (round binary64 b (y - x) c) (round binary64 (a && ltb y x) (x - y) c)) ≡ true
     by-order true = within-round binary64 b (y - x) c p q C Q (at-most (y - x) (omega arith))
     by-order false = within-round binary64 (a && ltb y x) (x - y) c p q C Q (at-most (x - y) (omega arith))
+
     by-sign : (t : Bool) → within (round binary64 false p q) (cond t (round binary64 a (x + y) c) (cond (ltb x y) (round binary64 b (y - x) c) (round binary64 (a && ltb y x) (x - y) c))) ≡ true
     by-sign true = within-round binary64 a (x + y) c p q C Q h
     by-sign false = by-order (ltb x y)
@@ -190,8 +192,10 @@ small-div (fin a m e) (fin b n d) p q r s Q R h k = go (eqb n 0) (eqb→eq n 0)
   where
     value : Float
     value = round binary64 (unlike a b) (m * up e * down d) (n * up d * down e)
+
     cross : m * up e * down d * (r * q) ≤ p * s * (n * up d * down e)
     cross = simp (mul-assoc, mul-comm, mul-left-comm) (simp (mul-assoc, mul-comm, mul-left-comm) at (mul-le-mul h (k .1)))
+
     go : (t : Bool) → (T t → n ≡ 0) → within (round binary64 false (p * s) (r * q)) (cond t (cond (eqb m 0) nan (inf (unlike a b))) value) ≡ true
     go true z = absurd (lt-irrefl 0 (subst (λ (i : ℕ). 0 < i) (z tt) (k .0)))
     go false z =
@@ -231,6 +235,7 @@ apart-within x y c p q C Q h k = by-order (ltb x y)
   where
     under : (n m : ℕ) → n ≤ m → m * q ≤ p * c → n * q ≤ p * c
     under n m l g = le-trans (mul-le-mul-right q l) g
+
     by-order : (t : Bool) → within (round binary64 false p q) (cond t (round binary64 true (y - x) c) (round binary64 (false && ltb y x) (x - y) c)) ≡ true
     by-order true = within-round binary64 true (y - x) c p q C Q (under (y - x) y (omega arith) k)
     by-order false = within-round binary64 false (x - y) c p q C Q (under (x - y) x (omega arith) h)
@@ -267,7 +272,7 @@ below-of-within b l x B h w = bound-is (λ b′. lt b′ l ≡ true → Small x 
     below-written n d (fin true j i) (fin s m e) g k = no g
     below-written n d (fin false j i) (fin s m e) g k =
         let cross : m * up e * down i * down d < j * up i * down e * down d =
-          lt-of-le-of-lt
-          (le-trans (le-of-eq (mul-right-comm (m * up e) (down i) (down d))) (le-trans (mul-le-mul-right (down i) k) (le-of-eq (mul-right-comm (n * up d) (down e) (down i)))))
-          (lt-of-lt-of-le (mul-lt-mul-of-pos-right (ltb→lt (n * up d * down i) (j * up i * down d) (to-T _ g)) (down-pos e)) (le-of-eq (mul-right-comm (j * up i) (down d) (down e)))) in
+        lt-of-le-of-lt
+        (le-trans (le-of-eq (mul-right-comm (m * up e) (down i) (down d))) (le-trans (mul-le-mul-right (down i) k) (le-of-eq (mul-right-comm (n * up d) (down e) (down i)))))
+        (lt-of-lt-of-le (mul-lt-mul-of-pos-right (ltb→lt (n * up d * down i) (j * up i * down d) (to-T _ g)) (down-pos e)) (le-of-eq (mul-right-comm (j * up i) (down d) (down e)))) in
         ltb-of-lt (m * up e * down i) (j * up i * down e) (lt-of-mul-lt-mul-right (down d) cross)

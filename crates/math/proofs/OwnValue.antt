@@ -35,7 +35,7 @@ own-part m k small deep =
     let room : prec binary64 + j ≤ l + suc (emax binary64) = omega arith in
     let fine : m * 2 ^ j < 2 ^ (l + suc (emax binary64)) = lt-of-lt-of-le (shl-lt (prec binary64) j small) (pow-mono room) in
     let e : m * 1 * 2 ^ l ≡ m * 2 ^ j * 2 ^ suc k =
-      ap (λ (p : ℕ). p * 2 ^ l) (mul-one m) ∙ ap (λ (p : ℕ). m * p) (ap (λ (p : ℕ). 2 ^ p) (sym (back l (suc k) deep)) ∙ pow-add 2 j (suc k)) ∙ sym (mul-assoc m (2 ^ j) (2 ^ suc k)) in
+    ap (λ (p : ℕ). p * 2 ^ l) (mul-one m) ∙ ap (λ (p : ℕ). m * p) (ap (λ (p : ℕ). 2 ^ p) (sym (back l (suc k) deep)) ∙ pow-add 2 j (suc k)) ∙ sym (mul-assoc m (2 ^ j) (2 ^ suc k)) in
     round-exact binary64 false (m * 1) (2 ^ suc k) m j (pow-pos (suc k)) small fine e
 
 four : (a b c d : Bool) → T (a && b && c && d) → T b × T c × T d

@@ -139,7 +139,7 @@ small-root c b (fin s m e) C B f h = elim (cases-bool (within b (fin s m e))) [ 
         let y = fin false n d in
         let a = above n d s m e u in
         let cross : n * up d * (n * up d) * (down e * down e) ≤ m * up e * (m * up e) * (down d * down d) =
-          le-trans (le-of-eq (mul-mul-mul-comm (n * up d) (n * up d) (down e) (down e))) (le-trans (mul-le-mul a a) (le-of-eq (mul-mul-mul-comm (m * up e) (down d) (m * up e) (down d)))) in
+        le-trans (le-of-eq (mul-mul-mul-comm (n * up d) (n * up d) (down e) (down e))) (le-trans (mul-le-mul a a) (le-of-eq (mul-mul-mul-comm (m * up e) (down d) (m * up e) (down d)))) in
         let larger : within (x ⊗ x) (y ⊗ y) ≡ true = same s (within-round binary64 false (n * up d * (n * up d)) (down d * down d) (m * up e * (m * up e)) (down e * down e) (mul-pos (down-pos d) (down-pos d)) (mul-pos (down-pos e) (down-pos e)) cross) in
         no (sym f ∙ within-more (x ⊗ x) c (y ⊗ y) (square-bound c x C h) C h larger)
       where

@@ -67,7 +67,7 @@ module _ (b c : Float) (k : bound b ≡ true) (l : bound c ≡ true) where
         let p = coordinates b u h in
         let q = coordinates c v j in
         let minor : (s t s′ t′ : Float) → within b s ≡ true → within c t ≡ true → within c s′ ≡ true → within b t′ ≡ true → within (b ⊗ c ⊕ c ⊗ b) _ ≡ true =
-          λ s t s′ t′ f g f′ g′. sub-within (b ⊗ c) (c ⊗ b) (s ⊗ t) (s′ ⊗ t′) m n (mul-within b c s t k l f g) (mul-within c b s′ t′ l k f′ g′) in
+        λ s t s′ t′ f g f′ g′. sub-within (b ⊗ c) (c ⊗ b) (s ⊗ t) (s′ ⊗ t′) m n (mul-within b c s t k l f g) (mul-within c b s′ t′ l k f′ g′) in
         from-coordinates (b ⊗ c ⊕ c ⊗ b) (crossed u v)
         (record { x = minor _ _ _ _ (p .y) (q .z) (q .y) (p .z); y = minor _ _ _ _ (p .z) (q .x) (q .z) (p .x); z = minor _ _ _ _ (p .x) (q .y) (q .x) (p .y) })
 

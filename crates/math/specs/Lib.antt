@@ -5,4 +5,5 @@ pub mod Basis
 pub mod Poses
 pub mod Magnitude
 pub mod Limits
+pub mod Nearly
 pub mod Refusals

@@ -17,6 +17,9 @@ scaled v k = record { x = v .x ⊗ k; y = v .y ⊗ k }
 unfoldable pub dotted : Vector2 → Vector2 → Float
 dotted a b = a .x ⊗ b .x ⊕ a .y ⊗ b .y
 
+unfoldable pub perp-dotted : Vector2 → Vector2 → Float
+perp-dotted a b = a .x ⊗ b .y ⊖ a .y ⊗ b .x
+
 -- 1 divided by the length
 unfoldable pub reciprocal : Vector2 → Float
 reciprocal v = one ⊘ root (dotted v v)

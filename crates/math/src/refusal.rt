@@ -47,8 +47,10 @@ impl Refusal {
     {
         match self {
             Refusal::TableSize => "refused 1: a table has fewer than 24 or more than 4096 slots",
-            Refusal::NumberOutOfRange => "refused 2: a number is NaN, infinite or above 2^20 in size",
-            Refusal::SizeNotPositive => "refused 3: a half extent, half height or radius is not above 0",
+            Refusal::NumberOutOfRange =>
+                "refused 2: a number is NaN, infinite or above 2^20 in size",
+            Refusal::SizeNotPositive =>
+                "refused 3: a half extent, half height or radius is not above 0",
             Refusal::RotationNotUnit => "refused 4: the rotation is not of unit length",
             Refusal::AxisNotUnit => "refused 5: an axis or normal is not of unit length",
             Refusal::TooManyVertices => "refused 6: a feature has more than four vertices",

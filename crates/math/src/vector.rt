@@ -1,6 +1,7 @@
 // The vector in three dimensions, with the operations that the contact code takes from it.
 ghost use mathlib.Core.Path.{_≡_};
-ghost use Rattle.math.specs.Vectors.{added, subtracted, negated, scaled, dotted, crossed};
+ghost use mathlib.Core.Bool.{true};
+ghost use Rattle.math.specs.Vectors.{added, subtracted, negated, scaled, dotted, crossed, sizes, vector-number, largest-place, First-largest};
 
 #[derive(Clone, Copy)]
 pub struct Vector {
@@ -74,6 +75,12 @@ impl Vector {
         self.dot(self)
     }
 
+    pub fn distance_squared(self, other: Vector) -> f64
+        ensures { λ r. ⌜ r ≡ dotted (subtracted self other) (subtracted self other) ⌝ }
+    {
+        self.sub(other).length_squared()
+    }
+
     pub fn cross(self, other: Vector) -> Vector
         ensures { λ r. ⌜ r ≡ crossed self other ⌝ }
     {
@@ -81,6 +88,31 @@ impl Vector {
             x: self.y * other.z - other.y * self.z,
             y: self.z * other.x - other.z * self.x,
             z: self.x * other.y - other.x * self.y,
+        }
+    }
+
+    pub fn abs(self) -> Vector
+        ensures { λ r. ⌜ r ≡ sizes self ⌝ }
+    {
+        Vector {
+            x: self.x.abs(),
+            y: self.y.abs(),
+            z: self.z.abs(),
+        }
+    }
+
+    // The first place of the largest coordinate.
+    pub fn max_position(self) -> usize
+        ensures value { λ r. ⌜ r ≡ largest-place self ⌝ }
+        ensures first { λ r. ⌜ (vector-number self ≡ true → First-largest self r) ⌝ }
+    {
+        let x = self.x;
+        let y = self.y;
+        let z = self.z;
+        if y > x {
+            if z > y { 2 } else { 1 }
+        } else {
+            if z > x { 2 } else { 0 }
         }
     }
 }

@@ -1,6 +1,6 @@
 // The vector in the plane, and its normalisation.
 ghost use mathlib.Core.Path.{_≡_};
-ghost use Rattle.math.specs.Vectors2.{subtracted, scaled, dotted, normalized};
+ghost use Rattle.math.specs.Vectors2.{subtracted, scaled, dotted, perp-dotted, normalized};
 
 #[derive(Clone, Copy)]
 pub struct Vector2 {
@@ -37,6 +37,12 @@ impl Vector2 {
         ensures { λ r. ⌜ r ≡ dotted self other ⌝ }
     {
         self.x * other.x + self.y * other.y
+    }
+
+    pub fn perp_dot(self, other: Vector2) -> f64
+        ensures { λ r. ⌜ r ≡ perp-dotted self other ⌝ }
+    {
+        self.x * other.y - self.y * other.x
     }
 
     pub fn length_squared(self) -> f64

@@ -261,7 +261,7 @@ module _ (seg1 : Segment) (h0 : vector-within end1 (seg1 .0) ≡ true) (h1 : vec
         by : (t : Bool) → lt zero (r .low) ≡ t → clip-near (cond t (added (seg1 .0) (scaled tangent ((r .low ⊖ zero) ⊘ (sq ⊖ zero))), r .first, 1, r .«first_feature») (seg1 .0, between r ((zero ⊖ r .low) ⊘ (r .high ⊖ r .low)), 0, 1)) ≡ true
         by true e =
             let f = first-fraction (r .low) (l .low) (lt-asym zero (r .low) e) not-past
-              (λ z. sym (lt-not-eq zero (r .low) e) ∙ squeezed along (r .low) sq zero along-is (l .low) sq-along zero-along (lt-asym zero (r .low) e) not-past z .0) in
+            (λ z. sym (lt-not-eq zero (r .low) e) ∙ squeezed along (r .low) sq zero along-is (l .low) sq-along zero-along (lt-asym zero (r .low) e) not-past z .0) in
             and-from _ _ (on-first _ f) (at-second (r .first) (l .first))
         by false e = and-from _ _ (at-first (seg1 .0) h0) (on-second _ (second-fraction zero zero-along e not-before (λ z. or-left _ _ z)))
 
@@ -272,7 +272,7 @@ module _ (seg1 : Segment) (h0 : vector-within end1 (seg1 .0) ≡ true) (h1 : vec
         by : (t : Bool) → lt (r .high) sq ≡ t → clip-near (cond t (added (seg1 .0) (scaled tangent ((r .high ⊖ zero) ⊘ (sq ⊖ zero))), r .last, 1, r .«last_feature») (seg1 .1, between r ((sq ⊖ r .low) ⊘ (r .high ⊖ r .low)), 2, 1)) ≡ true
         by true e =
             let f = first-fraction (r .high) (l .high) not-before (lt-asym (r .high) sq e)
-              (λ z. sym (lt-not-eq (r .high) sq e) ∙ squeezed along (r .high) sq zero along-is (l .high) sq-along zero-along not-before (lt-asym (r .high) sq e) z .1) in
+            (λ z. sym (lt-not-eq (r .high) sq e) ∙ squeezed along (r .high) sq zero along-is (l .high) sq-along zero-along not-before (lt-asym (r .high) sq e) z .1) in
             and-from _ _ (on-first _ f) (at-second (r .last) (l .last))
         by false e = and-from _ _ (at-first (seg1 .1) h1) (on-second _ (second-fraction sq sq-along not-past e (λ z. or-right _ _ z)))
 
@@ -291,8 +291,7 @@ module _ (seg1 : Segment) (h0 : vector-within end1 (seg1 .0) ≡ true) (h1 : vec
                 | inr m ↦
                     let e = sym (cond-false (apart sq r) _ _ m) ∙ h′ in
                     let l = lies seg2 k0 k1 in
-                    let same = same-pair e in
-                    (
+                    let same = same-pair e in (
                       subst (λ (p : Clip × Clip). clip-near (p .0) ≡ true) same (low-near r l d m),
                       subst (λ (p : Clip × Clip). clip-near (p .1) ≡ true) same (high-near r l d m),
                     )
@@ -301,7 +300,9 @@ module _ (seg1 : Segment) (h0 : vector-within end1 (seg1 .0) ≡ true) (h1 : vec
       where
         refused-not-done : {n : ℕ} {c : Option (Clip × Clip)} → refused n ≡ done c → ⊥
         refused-not-done e = let z : _≡_ {A = ℕ} 0 1 = cc in omega arith
+
         none-not-some : {c : Clip × Clip} → done None ≡ done (Some c) → ⊥
         none-not-some e = let z : _≡_ {A = ℕ} 0 1 = cc in omega arith
+
         same-pair : {p q : Clip × Clip} → done (Some p) ≡ done (Some q) → p ≡ q
         same-pair e = cc

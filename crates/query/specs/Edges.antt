@@ -8,7 +8,8 @@ use lib.ListN.{getD}
 use Rattle.std.specs.declared.option.Option.{Option}
 use Rattle.std.specs.declared.option.Option.the-variants.{Some, None}
 use Rattle.math.specs.Basis.{basis0, basis1}
-use Rattle.math.specs.Floats.{size, bits}
+use Rattle.math.specs.Floats.{size}
+use Rattle.math.specs.Nearly.{cos-pi-8}
 use Rattle.math.specs.Limits.{vector-given, pose-given, unit-rotation, unit-vector}
 use Rattle.math.specs.Poses.{transformed, untransformed}
 use Rattle.math.specs.Refusals.{Answer, done, refused}
@@ -32,10 +33,6 @@ projected basis v = record { x = dotted v (basis .0); y = dotted v (basis .1) }
 
 unfoldable pub edge-tangent : Vector × Vector → Segment → Option Vector2
 edge-tangent basis e = Plane.normalized (Plane.subtracted (projected basis (e .1)) (projected basis (e .0)))
-
--- the f64 nearest 0.92387953251
-abbrev pub cos-pi-8 : Float
-cos-pi-8 = bits 0x3fed_906b_cf32_6000
 
 -- Both edges have a projected tangent, and the size of their dot is below cos(pi / 8).
 abbrev pub crossing : Option Vector2 → Option Vector2 → Bool

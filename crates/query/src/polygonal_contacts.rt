@@ -3,6 +3,7 @@ use crate::clip_segment_segment;
 use crate::clip_segment_segment::ClippingPoints;
 use crate::contact_data::ContactData;
 use crate::contact_manifold::TrackedContact;
+use math::approx::COS_FRAC_PI_8;
 use math::pose::Pose;
 use math::refusal::Refusal;
 use math::vector::Vector;
@@ -17,9 +18,6 @@ ghost use Rattle.math.specs.Refusals.{told-as};
 ghost use Rattle.shape.specs.Features.{fields};
 ghost use Rattle.query.specs.Contacts.{seen, seen-both};
 ghost use Rattle.query.specs.Edges.{framed, projected, edge-tangent, crossing, feature-at, clip-contact, edge-rule, edging};
-
-// cos(pi / 8): edges are parallel where the cosine of their angle is no smaller in size.
-const COS_FRAC_PI_8: f64 = 0.92387953251;
 
 // The contacts of two edges: none, or one at each end of the part that they share. Points, axis and pose are in the frame of `face1`.
 pub fn contacts_edge_edge<D: ContactData>(
