@@ -27,7 +27,7 @@ use Rattle.math.specs.declared.vector2.Vector2.{Vector2}
 use Rattle.math.proofs.Magnitude.{bound, bound-is, no, Small, Large, small-of-within, within-of-small, within-more, within-round, add-within, within-self, small-mul, small-div, small-more}
 use Rattle.math.proofs.OwnValue.{held, exponent-le}
 use Rattle.math.proofs.Parts.{value-small, round-cases, square-bound, sum-left, sum-right, sum-bound}
-use Rattle.math.proofs.Root.{twice-reaches}
+use Rattle.math.proofs.WholeRoot.{twice-reaches}
 use Rattle.math.proofs.UnitMagnitude.{limit-bound, square, square-is-bound, two-squares, squared-within, squared-bound}
 
 -- ---- powers of two are values of the format: 2^t / 2^u for u up to 1074, where it is at most 2^1000

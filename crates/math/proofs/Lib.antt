@@ -5,8 +5,10 @@ pub mod Magnitude
 pub mod Order
 pub mod OwnValue
 pub mod Parts
-pub mod Root
+pub mod RootNearest
+pub mod RootRule
 pub mod RotationMagnitude
 pub mod Signs
 pub mod UnitMagnitude
 pub mod VectorMagnitude
+pub mod WholeRoot

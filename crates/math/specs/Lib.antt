@@ -7,3 +7,4 @@ pub mod Magnitude
 pub mod Limits
 pub mod Nearly
 pub mod Refusals
+pub mod Roots

@@ -3,6 +3,7 @@ pub mod approx;
 pub mod limits;
 pub mod pose;
 pub mod refusal;
+pub mod root;
 pub mod vector;
 pub mod vector2;
 pub mod wops;
