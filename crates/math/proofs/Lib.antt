@@ -1,5 +1,6 @@
 pub mod AzimuthMagnitude
 pub mod Fraction
+pub mod Integers
 pub mod Largest
 pub mod Magnitude
 pub mod Order
