@@ -2,10 +2,8 @@
 use crate::pose::Pose;
 use crate::pose::Rotation;
 use crate::vector::Vector;
-use crate::vector2::Vector2;
 ghost use mathlib.Core.Path.{_≡_};
-ghost use Rattle.math.specs.Magnitude.{vector2-within};
-ghost use Rattle.math.specs.Limits.{limit, may-be-given, vector-given, pose-given, near-one, unit-rotation, unit-vector};
+ghost use Rattle.math.specs.Limits.{may-be-given, vector-given, pose-given, near-one, unit-rotation, unit-vector};
 
 // 2^20
 const LIMIT: f64 = 1048576.0;
@@ -40,14 +38,6 @@ impl Vector {
         ensures { λ r. ⌜ r ≡ unit-vector self ⌝ }
     {
         is_near_one(self.length_squared())
-    }
-}
-
-impl Vector2 {
-    pub fn is_given(self) -> bool
-        ensures { λ r. ⌜ r ≡ vector2-within limit self ⌝ }
-    {
-        is_given(self.x) & is_given(self.y)
     }
 }
 
