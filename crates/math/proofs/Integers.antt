@@ -130,12 +130,16 @@ mul-difference p n q m =
   where
     both : {x x′ y y′ : ℤ} → x ≡ x′ → y ≡ y′ → x *ℤ y ≡ x′ *ℤ y′
     both {x} {x′} {y} {y′} e f = ap (λ (z : ℤ). z *ℤ y) e ∙ ap (λ (z : ℤ). x′ *ℤ z) f
+
     meet-pp : (n m u w p q : ℕ) → p ≡ n + u → q ≡ m + w → u * w + (p * m + n * q) ≡ p * q + n * m + 0
     meet-pp n m u w p q U V = subst (λ (x : ℕ). u * w + (x * m + n * q) ≡ x * q + n * m + 0) (sym U) (subst (λ (x : ℕ). u * w + ((n + u) * m + n * x) ≡ (n + u) * x + n * m + 0) (sym V) (omega arith))
+
     meet-pm : (n q u w p m : ℕ) → p ≡ n + u → m ≡ q + suc w → 0 + (p * m + n * q) ≡ p * q + n * m + u * suc w
     meet-pm n q u w p m U V = subst (λ (x : ℕ). 0 + (x * m + n * q) ≡ x * q + n * m + u * suc w) (sym U) (subst (λ (x : ℕ). 0 + ((n + u) * x + n * q) ≡ (n + u) * q + n * x + u * suc w) (sym V) (omega arith))
+
     meet-mp : (p m u w n q : ℕ) → n ≡ p + suc u → q ≡ m + w → 0 + (p * m + n * q) ≡ p * q + n * m + suc u * w
     meet-mp p m u w n q U V = subst (λ (x : ℕ). 0 + (p * m + x * q) ≡ p * q + x * m + suc u * w) (sym U) (subst (λ (x : ℕ). 0 + (p * m + (p + suc u) * x) ≡ p * x + (p + suc u) * m + suc u * w) (sym V) (omega arith))
+
     meet-mm : (p q u w n m : ℕ) → n ≡ p + suc u → m ≡ q + suc w → suc u * suc w + (p * m + n * q) ≡ p * q + n * m + 0
     meet-mm p q u w n m U V = subst (λ (x : ℕ). suc u * suc w + (p * m + x * q) ≡ p * q + x * m + 0) (sym U) (subst (λ (x : ℕ). suc u * suc w + (p * x + (p + suc u) * q) ≡ p * q + (p + suc u) * x + 0) (sym V) (omega arith))
 
@@ -163,6 +167,7 @@ mul-add x y z =
   where
     sum : {x x′ y y′ : ℤ} → x ≡ x′ → y ≡ y′ → x +ℤ y ≡ x′ +ℤ y′
     sum {x} {x′} {y} {y′} e f = ap (λ (z : ℤ). z +ℤ y) e ∙ ap (λ (z : ℤ). x′ +ℤ z) f
+
     written : (a b c d e f : ℕ) → difference a b *ℤ (difference c d +ℤ difference e f) ≡ difference a b *ℤ difference c d +ℤ difference a b *ℤ difference e f
     written a b c d e f =
         ap (λ (x : ℤ). difference a b *ℤ x) (add-difference c d e f) ∙ mul-difference a b (c + e) (d + f)

@@ -44,8 +44,10 @@ gap n a b q small large h =
   where
     apart : (a : ℕ) → 53 + a ≡ 52 + (a + 1)
     apart a = omega arith
+
     rest : (a b : ℕ) → b ≤ a → a - b + b ≡ a
     rest a b h = omega arith
+
     step : (q y : ℕ) → q < y → q + 1 ≤ y
     step q y h = omega arith
 
@@ -88,6 +90,7 @@ module _ (m q s y : ℕ) (S : 0 < s) (square : q * q ≤ m) (next : m < (q + 1) 
           let b : (2 * q + 1) * s * ((2 * q + 1) * s) ≤ (q * s + y) * (q * s + y) = mul-le-mul wide wide in
           let e : 4 * (q * q + q) * (s * s) < (2 * q + 1) * s * ((2 * q + 1) * s) = let z = ss in omega arith in
           lt-of-le-of-lt a (lt-of-lt-of-le e b)
+
       upper : (q + 1) * s < y → 4 * m * (s * s) < ((q + 1) * s + y) * ((q + 1) * s + y)
       upper k =
           let wide : 2 * ((q + 1) * s) ≤ (q + 1) * s + y = omega arith in
@@ -117,6 +120,7 @@ module _ (m q s y : ℕ) (S : 0 < s) (square : q * q ≤ m) (next : m < (q + 1) 
         where
           squares-lt : (u v : ℕ) → u < v → u * u < v * v
           squares-lt u v h = let w : u + 1 ≤ v = omega arith in let z = mul-le-mul w w in omega arith
+
       upper : leb (m - q * q) q ≡ false → y < (q + 1) * s → ((q + 1) * s + y) * ((q + 1) * s + y) < 4 * m * (s * s)
       upper f k =
           let l = leb-false (m - q * q) q f in
@@ -175,16 +179,22 @@ nearest v (fin false k g) R = record { larger = up-side; smaller = down-side }
   where
     I : ℕ
     I = 2 ^ R .i
+
     J : ℕ
     J = 2 ^ R .j
+
     c : ℕ
     c = chosen (R .m) (R .q)
+
     value : num v * (J * J) ≡ R .m * (I * I) * den v
     value = ap (λ (x : ℕ). num v * x) (sym (fourth (R .j))) ∙ R .value ∙ ap (λ (x : ℕ). R .m * x * den v) (fourth (R .i))
+
     root : k * up g * J ≡ c * I * down g
     root = R .root .1
+
     least : 2 ^ 52 ≤ R .q
     least = root-from (R .m) (R .q) (R .at-least) (R .next-square)
+
     up-side : (x : Float) → T (fits binary64 x) → not-negative x ≡ true → k * up g * den x < num x * down g → target v (fin false k g) x < middle (fin false k g) x * middle (fin false k g) x * den v
     up-side nan F N h = no N
     up-side (inf s) F N h = no N
@@ -193,6 +203,7 @@ nearest v (fin false k g) R = record { larger = up-side; smaller = down-side }
         past (num v) (den v) (k * up g) (down g) (n * up d) (down d) (R .m) c I J (den-pos v) (down-pos g) value root
         (above-choice (R .m) (R .q) (I * down d) (n * up d * J) (mul-pos (pow-pos (R .i)) (down-pos d)) (R .square) (R .next-square) (value-gap n d (R .q) (R .i) (R .j) F least)
         (order-up (num v) (den v) (k * up g) (down g) (n * up d) (down d) (R .m) c I J (den-pos v) (down-pos g) value root (pow-pos (R .j)) h))
+
     down-side : (x : Float) → T (fits binary64 x) → not-negative x ≡ true → num x * down g < k * up g * den x → middle (fin false k g) x * middle (fin false k g) x * den v < target v (fin false k g) x
     down-side nan F N h = no N
     down-side (inf s) F N h = no N

@@ -218,7 +218,7 @@ module _ (m q t : ℕ) (from : 2 ^ 104 ≤ m) (to : m < 2 ^ 106) (square : q * q
   unfolding K₁
   whole-size =
       let exact : (j : ℕ) → 1198 ≤ j → 2 ^ (j - 1198) * 2 ^ 2272 ≡ 2 ^ j * 2 ^ 1074 =
-        λ j l. sym (pow-add 2 (j - 1198) 2272) ∙ ap (λ (x : ℕ). 2 ^ x) (shift j l) ∙ pow-add 2 j 1074 in
+      λ j l. sym (pow-add 2 (j - 1198) 2272) ∙ ap (λ (x : ℕ). 2 ^ x) (shift j l) ∙ pow-add 2 j 1074 in
       let a : 1198 ≤ t + 54 = omega arith in
       let b : 1198 ≤ t + 55 = omega arith in
       let lower : 2 ^ (t + 54 - 1198) ≤ R₁ * 2 ^ 1074 / 2 ^ 2272 = le-div-iff-mul-le (pow-pos 2272) .1 (le-trans (le-of-eq (exact (t + 54) a)) (mul-le-mul-right (2 ^ 1074) R-from)) in
@@ -228,6 +228,7 @@ module _ (m q t : ℕ) (from : 2 ^ 104 ≤ m) (to : m < 2 ^ 106) (square : q * q
     where
       shift : (j : ℕ) → 1198 ≤ j → j - 1198 + 2272 ≡ j + 1074
       shift j l = omega arith
+
       count : (t : ℕ) → 1681 ≤ t → suc (t + 54 - 1198) ≡ t - 1196 + 53
       count t d = omega arith
 
@@ -237,13 +238,14 @@ module _ (m q t : ℕ) (from : 2 ^ 104 ≤ m) (to : m < 2 ^ 106) (square : q * q
       let k = K₁ in
       let drop : size (R₁ * 2 ^ 1074 / 2 ^ 2272) - 53 ≡ k = ap (λ (x : ℕ). x - 53) whole-size ∙ less (t - 1196) in
       let cross : R₁ * 2 ^ 1074 * (2 * T₁) ≡ R₁ * (2 ^ 2272 * 2 ^ k) =
-        ap (λ (x : ℕ). R₁ * 2 ^ 1074 * x) step-is ∙ mul-assoc R₁ (2 ^ 1074) (2 ^ (t + 2)) ∙ ap (λ (x : ℕ). R₁ * x) (sym (pow-add 2 1074 (t + 2)) ∙ ap (λ (x : ℕ). 2 ^ x) (same t deep) ∙ pow-add 2 2272 (t - 1196)) in
+      ap (λ (x : ℕ). R₁ * 2 ^ 1074 * x) step-is ∙ mul-assoc R₁ (2 ^ 1074) (2 ^ (t + 2)) ∙ ap (λ (x : ℕ). R₁ * x) (sym (pow-add 2 1074 (t + 2)) ∙ ap (λ (x : ℕ). 2 ^ x) (same t deep) ∙ pow-add 2 2272 (t - 1196)) in
       round-is binary64 false R₁ (2 ^ 2272)
       ∙ ap (λ (x : ℕ). units binary64 false (closest (R₁ * 2 ^ 1074) (2 ^ 2272 * 2 ^ x)) x) drop
       ∙ ap (λ (x : ℕ). units binary64 false x k) (closest-same (R₁ * 2 ^ 1074) (2 ^ 2272 * 2 ^ k) R₁ (2 * T₁) (mul-pos (pow-pos 2272) (pow-pos k)) (mul-pos (lit< tt) (mul-pos (lit< tt) (pow-pos t))) cross ∙ closest-is m q (2 ^ t) (pow-pos t) square next)
     where
       less : (x : ℕ) → x + 53 - 53 ≡ x
       less x = omega arith
+
       same : (t : ℕ) → 1681 ≤ t → 1074 + (t + 2) ≡ 2272 + (t - 1196)
       same t d = omega arith
 
@@ -254,20 +256,21 @@ module _ (m q t : ℕ) (from : 2 ^ 104 ≤ m) (to : m < 2 ^ 106) (square : q * q
       let c = chosen m q in
       let room : 53 + k < low binary64 + suc (emax binary64) = omega arith in
       let fine : c * 2 ^ k < 2 ^ (low binary64 + suc (emax binary64)) =
-        lt-of-le-of-lt (mul-le-mul-right (2 ^ k) (chosen-to m q (root-to m q to square))) (lt-of-le-of-lt (le-of-eq (sym (pow-add 2 53 k))) (pow-lt room)) in
+      lt-of-le-of-lt (mul-le-mul-right (2 ^ k) (chosen-to m q (root-to m q to square))) (lt-of-le-of-lt (le-of-eq (sym (pow-add 2 53 k))) (pow-lt room)) in
       subst (λ (x : Float). HasValue x false (c * 2 ^ (t + 1)) (2 ^ 2271)) (sym rounds-to) (finer (units binary64 false c k) c k (units-val binary64 false c k fine) (whole t deep))
     where
       whole : (t : ℕ) → 1681 ≤ t → t - 1196 + 1197 ≡ t + 1
       whole t d = omega arith
+
       finer : (x : Float) (c k : ℕ) → HasValue x false (c * 2 ^ k) (2 ^ 1074) → k + 1197 ≡ t + 1 → HasValue x false (c * 2 ^ (t + 1)) (2 ^ 2271)
       finer nan c k v e = v
       finer (inf s) c k v e = v
       finer (fin s n d) c k v e = (
         v .0,
         sym (mul-assoc (n * up d) (2 ^ 1074) (2 ^ 1197))
-        ∙ ap (λ (x : ℕ). x * 2 ^ 1197) (v .1)
-        ∙ mul-right-comm (c * 2 ^ k) (down d) (2 ^ 1197)
-        ∙ ap (λ (x : ℕ). x * down d) (mul-assoc c (2 ^ k) (2 ^ 1197) ∙ ap (λ (x : ℕ). c * x) (sym (pow-add 2 k 1197) ∙ ap (λ (x : ℕ). 2 ^ x) e)),
+            ∙ ap (λ (x : ℕ). x * 2 ^ 1197) (v .1)
+            ∙ mul-right-comm (c * 2 ^ k) (down d) (2 ^ 1197)
+            ∙ ap (λ (x : ℕ). x * down d) (mul-assoc c (2 ^ k) (2 ^ 1197) ∙ ap (λ (x : ℕ). c * x) (sym (pow-add 2 k 1197) ∙ ap (λ (x : ℕ). 2 ^ x) e)),
       )
 
 -- ---- a value of the format in units of 2^-4542: n × 2^z
@@ -297,7 +300,7 @@ scaled n (negsuc k) F =
     let d : suc k ≤ 1074 = exponent-le (suc k) 1074 (held false n (negsuc k) F .1) in
     let near : suc k ≤ 4542 = omega arith in
     let e : suc n * 1 * 2 ^ 4542 ≡ suc n * 2 ^ (4542 - suc k) * 2 ^ suc k =
-      ap (λ (x : ℕ). x * 2 ^ 4542) (mul-one (suc n)) ∙ ap (λ (x : ℕ). suc n * x) (ap (λ (x : ℕ). 2 ^ x) (sym (back 4542 (suc k) near)) ∙ pow-add 2 (4542 - suc k) (suc k)) ∙ sym (mul-assoc (suc n) (2 ^ (4542 - suc k)) (2 ^ suc k)) in
+    ap (λ (x : ℕ). x * 2 ^ 4542) (mul-one (suc n)) ∙ ap (λ (x : ℕ). suc n * x) (ap (λ (x : ℕ). 2 ^ x) (sym (back 4542 (suc k) near)) ∙ pow-add 2 (4542 - suc k) (suc k)) ∙ sym (mul-assoc (suc n) (2 ^ (4542 - suc k)) (2 ^ suc k)) in
     record { z = 4542 - suc k; units-are = ap (λ (x : ℕ). x / 2 ^ suc k) e ∙ mul-div-cancel (suc n * 2 ^ (4542 - suc k)) (pow-pos (suc k)); exact = e; deep = omega arith; high = omega arith }
 
 -- ---- the rule
@@ -352,5 +355,6 @@ module _ (n : ℕ) (e : ℤ) (F : T (fits binary64 (fin false (suc n) e))) where
     where
       double : (t : ℕ) → t + t ≡ 2 * t
       double t = omega arith
+
       digits : (w z : ℕ) → 3468 ≤ z → 2 ^ z ≤ w → 3468 < size w
       digits w z d h = elim (cases-lt 3468 (size w)) [ inl l ↦ l | inr g ↦ absurd (lt-irrefl w (lt-of-lt-of-le (size-lt w) (le-trans (pow-mono (le-trans g d)) h))) ]

@@ -152,10 +152,13 @@ join b e f q s d g u v x y hx hy hq hs =
   where
     regroup : (x e q : ℤ) → x *ℤ (e *ℤ q) ≡ q *ℤ (e *ℤ x)
     regroup x e q = simp (*ℤ-comm, mul-left-comm)
+
     regroup′ : (u b s : ℤ) → u *ℤ (b *ℤ s) ≡ s *ℤ (u *ℤ b)
     regroup′ u b s = simp (*ℤ-comm, mul-left-comm)
+
     both : {x x′ y y′ : ℤ} → x ≡ x′ → y ≡ y′ → x +ℤ y ≡ x′ +ℤ y′
     both {x} {x′} {y} {y′} e f = ap (λ (z : ℤ). z +ℤ y) e ∙ ap (λ (z : ℤ). x′ +ℤ z) f
+
     collect : (xq ys r quf qvg sub svd w vds : ℤ) → xq ≡ quf +ℤ qvg → ys ≡ sub +ℤ svd → r ≡ sub +ℤ quf → qvg ≡ w → vds +ℤ w ≡ pos 0 → svd ≡ vds → xq +ℤ ys ≡ r
     collect xq ys r quf qvg sub svd w vds a b c d e f = omega (arith, ints)
 
@@ -217,5 +220,6 @@ module _ (l : Lines) where
     where
       hq : Q l +ℤ B l *ℤ B l ≡ A l *ℤ E l
       hq = -ℤ-+ℤ-cancel (A l *ℤ E l) (B l *ℤ B l)
+
       hs : S l +ℤ C l *ℤ E l ≡ B l *ℤ F l
       hs = -ℤ-+ℤ-cancel (B l *ℤ F l) (C l *ℤ E l)
