@@ -1,4 +1,6 @@
+pub mod AllMagnitudes
 pub mod AzimuthMagnitude
+pub mod BasisMagnitude
 pub mod Fraction
 pub mod Integers
 pub mod Largest
@@ -8,6 +10,7 @@ pub mod OwnValue
 pub mod Parts
 pub mod RootNearest
 pub mod RootRule
+pub mod QuotientMagnitude
 pub mod RotationMagnitude
 pub mod Signs
 pub mod UnitMagnitude

@@ -15,7 +15,8 @@ use lib.Ieee.Positive.{num, den, den-pos}
 use Rattle.std.specs.Floats.{sqrt}
 use Rattle.std.proofs.shelf.Tests.{cases-lt, cases-bool, leb-true, leb-false, cond-true, cond-false}
 use Rattle.math.specs.Floats.{root}
-use Rattle.math.specs.Roots.{chosen, Rooted, Nearest, Root-is, not-negative, middle, target}
+use Rattle.math.specs.Magnitude.{bound}
+use Rattle.math.specs.Roots.{chosen, Rooted, Nearest, Root-is, middle, target}
 use Rattle.math.proofs.Magnitude.{no}
 use Rattle.math.proofs.OwnValue.{held}
 use Rattle.math.proofs.RootRule.{fourth, root-from, rooted}
@@ -195,7 +196,7 @@ nearest v (fin false k g) R = record { larger = up-side; smaller = down-side }
     least : 2 ^ 52 ≤ R .q
     least = root-from (R .m) (R .q) (R .at-least) (R .next-square)
 
-    up-side : (x : Float) → T (fits binary64 x) → not-negative x ≡ true → k * up g * den x < num x * down g → target v (fin false k g) x < middle (fin false k g) x * middle (fin false k g) x * den v
+    up-side : (x : Float) → T (fits binary64 x) → bound x ≡ true → k * up g * den x < num x * down g → target v (fin false k g) x < middle (fin false k g) x * middle (fin false k g) x * den v
     up-side nan F N h = no N
     up-side (inf s) F N h = no N
     up-side (fin true n d) F N h = no N
@@ -204,7 +205,7 @@ nearest v (fin false k g) R = record { larger = up-side; smaller = down-side }
         (above-choice (R .m) (R .q) (I * down d) (n * up d * J) (mul-pos (pow-pos (R .i)) (down-pos d)) (R .square) (R .next-square) (value-gap n d (R .q) (R .i) (R .j) F least)
         (order-up (num v) (den v) (k * up g) (down g) (n * up d) (down d) (R .m) c I J (den-pos v) (down-pos g) value root (pow-pos (R .j)) h))
 
-    down-side : (x : Float) → T (fits binary64 x) → not-negative x ≡ true → num x * down g < k * up g * den x → middle (fin false k g) x * middle (fin false k g) x * den v < target v (fin false k g) x
+    down-side : (x : Float) → T (fits binary64 x) → bound x ≡ true → num x * down g < k * up g * den x → middle (fin false k g) x * middle (fin false k g) x * den v < target v (fin false k g) x
     down-side nan F N h = no N
     down-side (inf s) F N h = no N
     down-side (fin true n d) F N h = no N

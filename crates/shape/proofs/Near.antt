@@ -8,10 +8,10 @@ use Rattle.std.proofs.shelf.Tests.{and-parts, and-from}
 use Rattle.math.specs.Basis.{signed}
 use Rattle.math.specs.Floats.{_⊗_, opposite, zero, two}
 use Rattle.math.specs.Limits.{limit}
-use Rattle.math.specs.Magnitude.{within, vector-within, vector2-within}
+use Rattle.math.specs.Magnitude.{bound, within, vector-within, vector2-within}
 use Rattle.math.specs.declared.vector.Vector.{Vector}
 use Rattle.math.specs.declared.vector2.Vector2.{Vector2}
-use Rattle.math.proofs.Magnitude.{bound, within-more, mul-within, neg-within}
+use Rattle.math.proofs.Magnitude.{within-more, mul-within, neg-within}
 use Rattle.math.proofs.UnitMagnitude.{limit-bound, two-bound}
 use Rattle.math.proofs.VectorMagnitude.{Coordinates, from-coordinates, vector-more}
 use Rattle.shape.specs.Cylinders.{side, rim}
