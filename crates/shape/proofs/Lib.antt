@@ -1,2 +1,3 @@
 pub mod Azimuth
+pub mod Ids
 pub mod Near
