@@ -1,3 +1,5 @@
 pub mod Azimuth
+pub mod Cuboids
 pub mod Ids
+pub mod Moves
 pub mod Near
