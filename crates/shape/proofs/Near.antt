@@ -61,7 +61,7 @@ module _ (a r : Float) (A : within two a ≡ true) (R : within limit r ≡ true)
   reach-back : within vertex-limit (opposite a ⊗ r) ≡ true
   reach-back = subst (λ (b : Float). within b (opposite a ⊗ r) ≡ true) twice-limit (mul-within two limit (opposite a) r two-bound limit-bound (neg-within two a ∙ A) R)
 
-pub signed-within : (b s x : Float) → within b x ≡ true → within b (signed s x) ≡ true
+signed-within : (b s x : Float) → within b x ≡ true → within b (signed s x) ≡ true
 unfolding within withSign
 signed-within b s nan h = h
 signed-within b s (inf t) h = h

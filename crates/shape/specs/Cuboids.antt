@@ -1,5 +1,7 @@
 -- The cuboid: its half extents, and the face that supports a direction, with the numbers of its corners, edges and faces.
-use Prim.Native.Nat.{ℕ, _+_, _*_}
+use Prim.Native.Nat.{ℕ, _+_, _*_, _<_}
+use mathlib.Core.Path.{_≡_}
+use mathlib.Core.Logic.{_⊎_}
 use mathlib.Core.Bool.{Bool, cond, _&&_}
 use mathlib.Core.List.{List, [], _∷_}
 use lib.Dec.{ltb, eqb}
@@ -16,6 +18,7 @@ use Rattle.math.specs.declared.vector.Vector.{Vector}
 use Rattle.shape.specs.Cylinders.{four-ids}
 use Rattle.shape.specs.Features.{Fields}
 use Rattle.shape.specs.Ids.{packed, vertexHeader, edgeHeader, faceHeader}
+use Rattle.shape.specs.Nearness.{vertex-at}
 use Rattle.shape.specs.Supports.{Meaning}
 use Rattle.shape.specs.declared.feature_id.PackedFeatureId.{PackedFeatureId}
 use Rattle.shape.specs.declared.cuboid.Cuboid.{Cuboid}
@@ -103,3 +106,26 @@ cuboid-fields he dir =
 
 unfoldable pub cuboid-meaning : Meaning Cuboid
 cuboid-meaning c dir hint = cuboid-fields (c .«half_extents») dir
+
+-- ---- laws
+
+-- the half extent or its opposite
+abbrev pub Plus-or-minus : Float → Float → Type 0
+Plus-or-minus h c = (c ≡ h) ⊎ (c ≡ opposite h)
+
+-- the bit of a corner's number for one axis
+abbrev pub corner-bit : ℕ → ℕ → Vector → ℕ → ℕ
+corner-bit axis side v k = cond (eqb k axis) side (cond (negative (coordinate v k)) 1 0)
+
+-- A corner of the face: across the face the half extent times the sign, along it the half extent or its opposite, and its number by its bits.
+pub record Face-corner (he : Vector) (axis : ℕ) (sign : Float) (side : ℕ) (v : Vector) (number : ℕ) : Type 0 where
+  pub across : coordinate v axis ≡ coordinate he axis ⊗ sign
+  pub along : (k : ℕ) → k < 3 → (k ≡ axis → ⊥) → Plus-or-minus (coordinate he k) (coordinate v k)
+  pub bits : number ≡ 4 * corner-bit axis side v 0 + 2 * corner-bit axis side v 1 + corner-bit axis side v 2
+
+-- each of the four vertices is a corner of the face that supports the direction
+abbrev pub Around-face : Vector → Vector → List Vector → Type 0
+Around-face he dir vs =
+    let axis = main-axis dir in
+    let d = coordinate dir axis in
+    (i : ℕ) → i < 4 → Face-corner he axis (signed d one) (side-of d) (vertex-at vs i) (corner-at axis (side-of d) i)

@@ -1,4 +1,5 @@
-// What every shape answers: one polygonal feature for a direction and an optional hint. The cylinder's answer stands here too.
+// What every shape answers: one polygonal feature for a direction and an optional hint. The answers of the cuboid and the cylinder stand here too.
+use crate::cuboid::Cuboid;
 use crate::cylinder::Cylinder;
 use crate::feature_id::PackedFeatureId;
 use crate::polygonal_feature3d::PolygonalFeature;
@@ -13,6 +14,7 @@ ghost use Rattle.math.specs.Magnitude.{vector2-within};
 ghost use Rattle.math.specs.Refusals.{told};
 ghost use Rattle.shape.specs.Features.{fields};
 ghost use Rattle.shape.specs.Supports.{Meaning, hint-given, direction-given, supporting};
+ghost use Rattle.shape.specs.Cuboids.{cuboid-meaning};
 ghost use Rattle.shape.specs.Cylinders.{azimuth, side, cap, cylinder-fields, cylinder-meaning};
 
 pub trait PolygonalFeatureMap {
@@ -138,5 +140,22 @@ pub impl PolygonalFeatureMap for Cylinder as CylinderFeatures {
         }
         self.support_feature_with_azimuth(dir, feature_azimuth(dir, hint), out_feature);
         Ok(())
+    }
+}
+
+pub impl PolygonalFeatureMap for Cuboid as CuboidFeatures {
+    ghost meaning = { cuboid-meaning };
+
+    // The hint is a number given, though it is not read.
+    fn local_support_feature(
+        &self,
+        dir: Vector,
+        hint: Option<Vector>,
+        out_feature: &mut PolygonalFeature,
+    ) -> Result<(), Refusal> {
+        if !is_hint_given(hint) {
+            return Err(Refusal::NumberOutOfRange);
+        }
+        self.support_face(dir, out_feature)
     }
 }

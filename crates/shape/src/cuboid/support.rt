@@ -7,18 +7,16 @@ use math::vector::Vector;
 use math::wops;
 ghost use mathlib.Core.Path.{_≡_};
 ghost use mathlib.Core.Bool.{true, cond};
-ghost use mathlib.Core.List.{_∷_, []};
-ghost use Prim.Native.Nat.{_<_, _*_, _^_};
+ghost use Prim.Native.Nat.{_<_, _^_};
 ghost use lib.ListN.{getD};
-ghost use Rattle.math.specs.Basis.{signed};
 ghost use lib.Ieee as Ieee;
-ghost use Rattle.math.specs.Floats.{zero, one};
-ghost use Rattle.math.specs.Limits.{vector-given};
+ghost use Rattle.math.specs.Floats.{zero};
 ghost use Rattle.math.specs.Refusals.{told};
-ghost use Rattle.math.specs.Vectors.{coordinate};
+ghost use Rattle.std.specs.declared.option.Option.the-variants.{None};
+ghost use Rattle.math.specs.Vectors.{coordinate, sizes, First-largest};
 ghost use Rattle.shape.specs.Features.{fields};
-ghost use Rattle.shape.specs.Supports.{supporting};
-ghost use Rattle.shape.specs.Cuboids.{main-axis, face-vertices, vertex-codes, edge-codes, cuboid-fields};
+ghost use Rattle.shape.specs.Supports.{direction-given, supporting};
+ghost use Rattle.shape.specs.Cuboids.{main-axis, Around-face, face-vertices, vertex-codes, edge-codes, cuboid-fields};
 
 fn main_axis(dir: Vector) -> usize
     ensures value { λ r. ⌜ r ≡ main-axis dir ⌝ }
@@ -160,5 +158,23 @@ impl Cuboid {
             fid: PackedFeatureId::packed_face(imax as u32 + sign_index * 3 + 10),
             num_vertices: 4,
         };
+    }
+
+    // The face across the axis along which the direction is largest in size, on the side of its sign there.
+    pub fn support_face(
+        &self,
+        local_dir: Vector,
+        out_feature: &mut PolygonalFeature,
+    ) -> Result<(), Refusal>
+        ensures answer { λ r. ⌜ told r ≡ supporting «local_dir» None ⌝ }
+        ensures after { λ r. ⌜ fields (now («out_feature» .exit)) ≡ cond (direction-given «local_dir» None) (cuboid-fields (now (self .entry) .«half_extents») «local_dir») (fields (now («out_feature» .entry))) ⌝ }
+        ensures axis { λ r. ⌜ (direction-given «local_dir» None ≡ true → First-largest (sizes «local_dir») (main-axis «local_dir»)) ⌝ }
+        ensures corners { λ r. ⌜ (direction-given «local_dir» None ≡ true → Around-face (now (self .entry) .«half_extents») «local_dir» (now («out_feature» .exit) .vertices)) ⌝ }
+    {
+        if !local_dir.is_given() {
+            return Err(Refusal::NumberOutOfRange);
+        }
+        self.face_towards(local_dir, out_feature);
+        Ok(())
     }
 }
