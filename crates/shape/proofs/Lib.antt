@@ -3,3 +3,4 @@ pub mod Cuboids
 pub mod Ids
 pub mod Moves
 pub mod Near
+pub mod Turns

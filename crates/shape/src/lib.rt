@@ -4,3 +4,5 @@ pub mod cylinder;
 pub mod feature_id;
 pub mod polygonal_feature3d;
 pub mod polygonal_feature_map;
+#[cfg(test)]
+mod tests;
