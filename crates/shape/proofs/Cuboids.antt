@@ -14,11 +14,11 @@ use Rattle.math.specs.Basis.{signed}
 use Rattle.math.specs.Floats.{_⊗_, opposite, one}
 use Rattle.math.specs.Floats as F
 use Rattle.math.specs.Limits.{limit}
-use Rattle.math.specs.Magnitude.{within, vector-within}
+use Rattle.math.specs.Magnitude.{bound, within, vector-within}
 use Rattle.math.specs.Vectors.{sizes, vector-number, largest-place, coordinate, First-largest}
 use Rattle.math.specs.declared.vector.Vector.{Vector}
 use Rattle.math.proofs.Largest as Largest
-use Rattle.math.proofs.Magnitude.{bound, no, mul-within, neg-within}
+use Rattle.math.proofs.Magnitude.{no, mul-within, neg-within}
 use Rattle.math.proofs.UnitMagnitude.{limit-bound}
 use Rattle.math.proofs.VectorMagnitude.{coordinates}
 use Rattle.shape.specs.Cuboids.{main-axis, side-of, face-vertices, face-corners, corner-at, cuboid-fields, Plus-or-minus, Face-corner, Around-face}
