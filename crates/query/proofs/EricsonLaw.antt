@@ -1,7 +1,9 @@
 -- Ericson's formulas solve his two equations, by the laws of a ring: each part is a sum of products that cancel in pairs.
 use mathlib.Core.Path.{_≡_, refl, sym, ap, _∙_, subst}
+use mathlib.Core.Logic.{_⊎_, inl, inr}
+use Prim.Native.Nat.{ℕ, zero, suc, _+_, _*_}
 use native.Mathlib.Omega.{arith}
-use lib.IntN.{ℤ, pos, negsuc, negℤ, _+ℤ_, _-ℤ_, _*ℤ_, *ℤ-comm, +ℤ-comm, -ℤ-+ℤ-cancel, +ℤ-invl, *ℤ-zero}
+use lib.IntN.{ℤ, pos, negsuc, negℤ, _+ℤ_, _-ℤ_, _*ℤ_, *ℤ-comm, +ℤ-comm, -ℤ-+ℤ-cancel, +ℤ-invl, *ℤ-zero, zero-*ℤ, natAbs}
 use Rattle.std.proofs.shelf.Signed.{ints}
 use Rattle.math.proofs.Integers.{mul-assoc, mul-add}
 use Rattle.query.specs.Meeting.{Lines, Ericson, A, B, C, E, F, S, Q, T}
@@ -137,6 +139,50 @@ module _ (x1 y1 x2 y2 xr yr d g : ℤ) (hd : d +ℤ x2 *ℤ y1 ≡ x1 *ℤ y2) (
       let m3 : y2 *ℤ (x1 *ℤ x2) ≡ x2 *ℤ (x1 *ℤ y2) = simp (*ℤ-comm, mul-left-comm) in
       omega (arith, ints)
 
+-- ---- nothing but 0 has no size
+
+size-of-square : (x : ℤ) → x *ℤ x ≡ pos (natAbs x * natAbs x)
+size-of-square (pos n) = refl
+size-of-square (negsuc n) = refl
+
+zero-size : (x : ℤ) → natAbs x ≡ 0 → x ≡ pos 0
+zero-size (pos n) h = ap pos h
+zero-size (negsuc n) h = absurd (none n h)
+  where
+    none : (n : ℕ) → suc n ≡ 0 → ⊥
+    none n h = omega arith
+
+natural : {m n : ℕ} → pos m ≡ pos n → m ≡ n
+natural e = cc
+
+square-zero : (x y : ℤ) → x *ℤ x +ℤ y *ℤ y ≡ pos 0 → (x ≡ pos 0) × (y ≡ pos 0)
+square-zero x y h =
+    let s : natAbs x * natAbs x + natAbs y * natAbs y ≡ 0 = natural (sym (ap (λ (z : ℤ). z +ℤ y *ℤ y) (size-of-square x) ∙ ap (λ (z : ℤ). pos (natAbs x * natAbs x) +ℤ z) (size-of-square y)) ∙ h) in
+    (zero-size x (root (natAbs x) (omega (arith, s))), zero-size y (root (natAbs y) (omega (arith, s))))
+  where
+    root : (n : ℕ) → n * n ≡ 0 → n ≡ 0
+    root zero h = refl
+    root (suc n) h = absurd (none n h)
+      where
+        none : (n : ℕ) → suc n * suc n ≡ 0 → ⊥
+        none n h = omega arith
+
+negated-zero : (k : ℕ) → negℤ (pos k) ≡ pos 0 → k ≡ 0
+negated-zero zero h = refl
+negated-zero (suc k) h = ap natAbs h
+
+no-product : (m n : ℕ) → suc m * suc n ≡ 0 → ⊥
+no-product m n h = omega arith
+
+zero-factor : (x y : ℤ) → x *ℤ y ≡ pos 0 → (x ≡ pos 0) ⊎ (y ≡ pos 0)
+zero-factor (pos zero) y h = inl refl
+zero-factor (pos (suc m)) (pos zero) h = inr refl
+zero-factor (pos (suc m)) (pos (suc n)) h = absurd (no-product m n (natural h))
+zero-factor (pos (suc m)) (negsuc n) h = absurd (no-product m n (negated-zero (suc m * suc n) h))
+zero-factor (negsuc m) (pos zero) h = inr refl
+zero-factor (negsuc m) (pos (suc n)) h = absurd (no-product m n (negated-zero (suc m * suc n) h))
+zero-factor (negsuc m) (negsuc n) h = absurd (no-product m n (natural h))
+
 -- ---- put together
 
 -- x q + y s, where e x = u f + v g, e y = u b + v d, q = d d and s = −d g: what is left of e (x q + y s) is u (b s + f q)
@@ -197,6 +243,20 @@ module _ (l : Lines) where
   r-along-y : E l *ℤ l .yr +ℤ l .x2 *ℤ g ≡ l .y2 *ℤ F l
   r-along-y = along-y (l .xr) (l .yr) (l .x2) (l .y2) (l .xr) (l .yr) g g g-is g-is ∙ ap (λ (z : ℤ). l .y2 *ℤ z) (swapped (l .xr) (l .yr) (l .x2) (l .y2))
 
+  -- a sum of squares is 0 only where both are
+  proper : (Q l ≡ pos 0 → ⊥) → E l *ℤ Q l ≡ pos 0 → ⊥
+  proper n z = elim (zero-factor (E l) (Q l) z) [ inr q ↦ n q | inl e ↦ n (Q-is ∙ flat (square-zero (l .x2) (l .y2) e)) ]
+    where
+      flat : (l .x2 ≡ pos 0) × (l .y2 ≡ pos 0) → d *ℤ d ≡ pos 0
+      flat h =
+          let u : l .x1 *ℤ l .y2 ≡ pos 0 = ap (λ (z : ℤ). l .x1 *ℤ z) (h .1) ∙ *ℤ-zero (l .x1) in
+          let v : l .x2 *ℤ l .y1 ≡ pos 0 = ap (λ (z : ℤ). z *ℤ l .y1) (h .0) ∙ zero-*ℤ (l .y1) in
+          let w : d ≡ pos 0 = both u v in
+          ap (λ (z : ℤ). z *ℤ d) w ∙ zero-*ℤ d
+        where
+          both : {x y : ℤ} → x ≡ pos 0 → y ≡ pos 0 → x -ℤ y ≡ pos 0
+          both {x} {y} a b = ap (λ (z : ℤ). z -ℤ y) a ∙ ap (λ (z : ℤ). pos 0 -ℤ z) b
+
   -- moved to the other side, with the sign on the first factor
   turned : (x y z w : ℤ) → x +ℤ y *ℤ z ≡ w → x ≡ w +ℤ negℤ y *ℤ z
   turned x y z w h =
@@ -211,6 +271,7 @@ module _ (l : Lines) where
   pub ericson : Ericson l
   ericson =
       record {
+        proper = proper;
         across-first = first (A l) (B l) (C l) (E l) (F l) (Q l) (S l) hq hs;
         across-second = second (A l) (B l) (C l) (E l) (F l) (Q l) (S l) hq hs;
         only = λ s t q h k. (same-s (A l) (B l) (C l) (E l) (F l) (Q l) (S l) hq hs s t q h k, same-t (A l) (B l) (C l) (E l) (F l) (Q l) (S l) hq hs s t q h k);

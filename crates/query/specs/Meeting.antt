@@ -117,9 +117,10 @@ module _ (l : Lines) where
   abbrev pub T : ℤ
   T = B *ℤ S +ℤ F *ℤ Q
 
--- What the formulas give, for every pair of lines that are not parallel: the join of the two points, r + s d1 − t d2, is at right angles to both lines;
+-- What the formulas give, for every pair of lines with a e other than b b, where neither Q nor E Q is 0: the join of the two points, r + s d1 − t d2, is at right angles to both lines;
 -- no other places on them have such a join; and the join is nothing, so that the two points are one.
 pub record Ericson (l : Lines) : Type 0 where
+  pub proper : (Q l ≡ pos 0 → ⊥) → E l *ℤ Q l ≡ pos 0 → ⊥
   pub across-first : E l *ℤ (C l *ℤ Q l +ℤ A l *ℤ S l) ≡ B l *ℤ T l
   pub across-second : E l *ℤ (F l *ℤ Q l +ℤ B l *ℤ S l) ≡ E l *ℤ T l
   pub only : (s t q : ℤ) → C l *ℤ q +ℤ A l *ℤ s ≡ B l *ℤ t → F l *ℤ q +ℤ B l *ℤ s ≡ E l *ℤ t → (s *ℤ Q l ≡ S l *ℤ q) × (t *ℤ (E l *ℤ Q l) ≡ T l *ℤ q)
