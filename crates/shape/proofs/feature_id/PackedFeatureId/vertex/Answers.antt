@@ -3,7 +3,7 @@ use mathlib.Core.Path.{_≡_, sym, subst}
 use Prim.Native.Nat.{_^_, _<_}
 use native.Mathlib.Omega.{arith}
 use borrow.Author.Needs.{needs}
-use Rattle.math.specs.Refusals.{Answer, done}
+use Rattle.math.specs.Refusals.{done}
 use Rattle.shape.specs.Ids.{vertexHeader, packing, Only-from}
 use Rattle.shape.specs.declared.feature_id.PackedFeatureId.{PackedFeatureId}
 use Rattle.shape.proofs.Ids.{unpacked-packed, only-from}
