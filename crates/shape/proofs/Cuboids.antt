@@ -1,15 +1,14 @@
 -- The face of a cuboid: its axis is one of three, its side one of two, its corners lie near.
-use mathlib.Core.Path.{_≡_, refl, sym, ap, _∙_, subst}
+use mathlib.Core.Path.{_≡_, refl, _∙_, subst}
 use mathlib.Core.Logic.{_⊎_, inl, inr}
 use mathlib.Core.Bool.{Bool, true, false, not, cond, _&&_}
-use mathlib.Core.List.{List, [], _∷_}
+use mathlib.Core.List.{List}
 use Prim.Native.Nat.{ℕ, zero, suc, _+_, _*_, _<_}
 use native.Mathlib.Omega.{arith}
 use lib.Dec.{eqb}
-use lib.Ieee as Ieee
 use lib.Ieee.{Float, nan, inf, fin, ofBits, isNan, lt, le, neg, mul, round}
 use Rattle.std.specs.Floats.{withSign, negative}
-use Rattle.std.proofs.shelf.Tests.{and-parts, and-from, cond-both, cases-bool}
+use Rattle.std.proofs.shelf.Tests.{and-parts, and-from, cond-both}
 use Rattle.math.specs.Basis.{signed}
 use Rattle.math.specs.Floats.{_⊗_, opposite, one}
 use Rattle.math.specs.Floats as F

@@ -1,14 +1,14 @@
 -- Ids and what they stand for: a quotient and a remainder by 2^30, so that packing and unpacking undo each other.
-use mathlib.Core.Path.{_≡_, refl, sym, ap, _∙_, subst}
+use mathlib.Core.Path.{_≡_, sym, ap, _∙_}
 use mathlib.Core.Logic.{inl, inr}
-use mathlib.Core.Bool.{Bool, true, false, cond}
+use mathlib.Core.Bool.{true, false, cond}
 use Prim.Native.Nat.{ℕ, _+_, _*_, _/_, _%_, _^_, _<_, _≤_}
 use native.Mathlib.Omega.{arith}
 use lib.Dec.{ltb, eqb}
 use Rattle.std.proofs.shelf.Bits.{shr-high, mod-low, shr-split, mod-below, pow-pos, le-div, div-below}
 use Rattle.std.proofs.shelf.Tests.{cases-bool, ltb-true, lt-ltb, eqb-true, eqb-false, cond-true}
-use Rattle.math.specs.Refusals.{Answer, done, refused}
-use Rattle.shape.specs.Ids.{vertexHeader, edgeHeader, faceHeader, packed, packing, unpacked, has-header, Unpacks-to, Only-from, Packs-back, repacking}
+use Rattle.math.specs.Refusals.{done, refused}
+use Rattle.shape.specs.Ids.{vertexHeader, edgeHeader, faceHeader, packed, packing, unpacked, has-header, Only-from}
 use Rattle.shape.specs.declared.feature_id.FeatureId.{FeatureId}
 use Rattle.shape.specs.declared.feature_id.FeatureId.the-variants.{Vertex, Edge, Face, Unknown}
 use Rattle.shape.specs.declared.feature_id.PackedFeatureId.{PackedFeatureId}

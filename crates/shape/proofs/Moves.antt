@@ -1,7 +1,7 @@
 -- The test of all four moved vertices is the test of the used ones: the unused ones lie near already.
 use mathlib.Core.Path.{_≡_, refl}
 use Prim.Native.Nat.{ℕ}
-use mathlib.Core.Bool.{Bool, true, false, cond, _&&_}
+use mathlib.Core.Bool.{Bool, true, false, cond}
 use Rattle.std.proofs.shelf.Tests.{and-parts}
 use Rattle.math.specs.Magnitude.{vector-within}
 use Rattle.math.specs.Poses.{transformed}

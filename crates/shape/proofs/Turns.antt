@@ -1,8 +1,7 @@
 -- Where the vertices of a cylinder's feature stand: a product with an opposite is the opposite product, so each vertex of a cap is a quarter turn from the one before.
 use mathlib.Core.Path.{_≡_, refl, sym, ap, _∙_, subst}
 use mathlib.Core.Logic.{_⊎_, inl, inr}
-use mathlib.Core.Bool.{Bool, true, false, not, cond, Bool·beq}
-use mathlib.Core.List.{List, [], _∷_}
+use mathlib.Core.Bool.{Bool, true, false, not, cond}
 use Prim.Native.Nat.{ℕ, zero, suc, _+_, _-_, _*_, _/_, _%_, _^_, _<_, compare}
 use native.Mathlib.Omega.{arith}
 use lib.Dec.{eqb, ltb}
@@ -19,7 +18,6 @@ use Rattle.math.specs.Vectors2.{normalized}
 use Rattle.math.specs.declared.vector.Vector.{Vector}
 use Rattle.math.specs.declared.vector2.Vector2.{Vector2}
 use Rattle.shape.specs.Cylinders.{or-else, flat, from-hint, azimuth, rim, side, top, bottom, cap, half, cylinder-fields, Azimuth-from, quarter-turned, Segment-at, Square-at, Stands-at}
-use Rattle.shape.specs.Features.{Fields}
 use Rattle.shape.specs.Nearness.{vertex-at}
 
 -- ---- opposites

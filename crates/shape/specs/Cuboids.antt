@@ -2,7 +2,7 @@
 use Prim.Native.Nat.{ℕ, _+_, _*_, _<_}
 use mathlib.Core.Path.{_≡_}
 use mathlib.Core.Logic.{_⊎_}
-use mathlib.Core.Bool.{Bool, cond, _&&_}
+use mathlib.Core.Bool.{cond, _&&_}
 use mathlib.Core.List.{List, [], _∷_}
 use lib.Dec.{ltb, eqb}
 use lib.ListN.{getD}
@@ -15,9 +15,8 @@ use Rattle.math.specs.Limits.{vector-given}
 use Rattle.math.specs.Refusals.{Answer, done, refused}
 use Rattle.math.specs.Vectors.{sizes, largest-place, coordinate}
 use Rattle.math.specs.declared.vector.Vector.{Vector}
-use Rattle.shape.specs.Cylinders.{four-ids}
 use Rattle.shape.specs.Features.{Fields}
-use Rattle.shape.specs.Ids.{packed, vertexHeader, edgeHeader, faceHeader}
+use Rattle.shape.specs.Ids.{packed, four-ids, vertexHeader, edgeHeader, faceHeader}
 use Rattle.shape.specs.Nearness.{vertex-at}
 use Rattle.shape.specs.Supports.{Meaning}
 use Rattle.shape.specs.declared.feature_id.PackedFeatureId.{PackedFeatureId}

@@ -2,7 +2,7 @@
 use Prim.Native.Nat.{ℕ, suc, _<_}
 use mathlib.Core.Path.{_≡_}
 use mathlib.Core.Logic.{_⊎_}
-use mathlib.Core.Bool.{Bool, true, false, cond, _&&_}
+use mathlib.Core.Bool.{true, false, cond, _&&_}
 use mathlib.Core.List.{List, [], _∷_}
 use lib.Ieee as Ieee
 use lib.Ieee.{Float}
@@ -16,10 +16,9 @@ use Rattle.math.specs.Vectors2.{normalized}
 use Rattle.math.specs.declared.vector.Vector.{Vector}
 use Rattle.math.specs.declared.vector2.Vector2.{Vector2}
 use Rattle.shape.specs.Features.{Fields, origin}
-use Rattle.shape.specs.Ids.{packed, vertexHeader, edgeHeader, faceHeader}
+use Rattle.shape.specs.Ids.{packed, four-ids, vertexHeader, edgeHeader, faceHeader}
 use Rattle.shape.specs.Nearness.{vertex-at}
 use Rattle.shape.specs.Supports.{Meaning}
-use Rattle.shape.specs.declared.feature_id.PackedFeatureId.{PackedFeatureId}
 use Rattle.shape.specs.declared.cylinder.Cylinder.{Cylinder}
 
 -- half height and radius
@@ -46,9 +45,6 @@ from-hint (Some h) = normalized (flat h)
 -- the hint's, then the direction's, then (1, 0)
 unfoldable pub azimuth : Vector → Option Vector → Vector2
 azimuth dir hint = or-else (from-hint hint) (or-else (normalized (flat dir)) (record { x = one; y = zero }))
-
-abbrev pub four-ids : ℕ → ℕ → ℕ → ℕ → ℕ → List PackedFeatureId
-four-ids h a b c d = packed h a ∷ packed h b ∷ packed h c ∷ packed h d ∷ []
 
 -- The curved side is one segment, its feature the face 0: from below, vertex 1, up to vertex 11.
 unfoldable pub side : Float → Float → Vector2 → Fields

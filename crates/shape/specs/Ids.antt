@@ -2,6 +2,7 @@
 use Prim.Native.Nat.{ℕ, _+_, _*_, _/_, _%_, _^_, _≤_}
 use mathlib.Core.Path.{_≡_}
 use mathlib.Core.Bool.{Bool, cond}
+use mathlib.Core.List.{List, [], _∷_}
 use lib.Dec.{ltb, eqb}
 use Rattle.math.specs.Refusals.{Answer, done, refused}
 use Rattle.shape.specs.declared.feature_id.FeatureId.{FeatureId}
@@ -19,6 +20,10 @@ faceHeader = 3
 
 unfoldable pub packed : ℕ → ℕ → PackedFeatureId
 packed header code = record { 0 = header * 2 ^ 30 + code }
+
+-- four ids under one header
+abbrev pub four-ids : ℕ → ℕ → ℕ → ℕ → ℕ → List PackedFeatureId
+four-ids h a b c d = packed h a ∷ packed h b ∷ packed h c ∷ packed h d ∷ []
 
 -- A code of 2^30 or more is turned down with 7.
 abbrev pub packing : ℕ → ℕ → Answer PackedFeatureId

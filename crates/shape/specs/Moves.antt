@@ -1,7 +1,7 @@
 -- A feature moved by a pose: the used vertices go where the pose takes them, the unused ones and the ids stay.
 use Prim.Native.Nat.{ℕ}
 use mathlib.Core.Bool.{Bool, true, cond, _&&_}
-use mathlib.Core.List.{List, [], _∷_}
+use mathlib.Core.List.{[], _∷_}
 use lib.Dec.{ltb}
 use Rattle.math.specs.Limits.{pose-given, unit-rotation}
 use Rattle.math.specs.Magnitude.{vector-within}

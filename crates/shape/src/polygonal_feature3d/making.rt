@@ -11,7 +11,7 @@ ghost use Rattle.math.specs.Magnitude.{vector-within};
 ghost use Rattle.math.specs.Poses.{transformed};
 ghost use Rattle.shape.specs.Nearness.{vertex-limit, given-all, near-all};
 ghost use Rattle.shape.specs.Features.{Fields, fields, nothing, making, made};
-ghost use Rattle.shape.specs.Moves.{moved, moving, moved-or-kept};
+ghost use Rattle.shape.specs.Moves.{moving, moved-or-kept};
 
 // 2^21
 const VERTEX_LIMIT: f64 = 2097152.0;

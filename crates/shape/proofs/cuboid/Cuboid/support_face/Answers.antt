@@ -23,5 +23,5 @@ returns c =
       answer = answer;
       after = after;
       axis = λ g. first-largest (sizes dir) (sizes-number dir given);
-      corners = λ g. subst (λ (f : Fields). Around-face (k .«half_extents») dir (f .vertices)) (sym written) (around (k .«half_extents») dir (k .sized));
+      corners = λ g. subst (λ (f : Fields). Around-face (k .«half_extents») dir (f .vertices)) {x = cuboid-fields (k .«half_extents») dir} (sym written) (around (k .«half_extents») dir (k .sized));
     }

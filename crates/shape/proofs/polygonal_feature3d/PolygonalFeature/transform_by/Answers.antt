@@ -1,7 +1,7 @@
 -- The moved vertices are those of `moved`, and the test of them is `all-land-near`.
 use mathlib.Core.Path.{_≡_, ap, _∙_, sym}
 use mathlib.Core.Bool.{true, false}
-use mathlib.Core.List.{List, [], _∷_}
+use mathlib.Core.List.{[], _∷_}
 use borrow.Author.Needs.{needs}
 use Rattle.shape.specs.Features.{fields}
 use Rattle.shape.specs.Moves.{moved, all-land-near}
