@@ -1,0 +1,47 @@
+// The commands of a script, as they are read from its lines.
+use math::vector::Vector;
+use shape::feature_id::PackedFeatureId;
+
+// The shape and the feature that a command means.
+#[derive(Clone, Copy)]
+pub enum Which {
+    First,
+    Second,
+}
+
+#[derive(Clone, Copy)]
+pub enum IdKind {
+    Vertex,
+    Edge,
+    Face,
+}
+
+// A shape's kind and sizes as given.
+#[derive(Clone, Copy)]
+pub enum Form {
+    // Half height, then radius.
+    Cylinder(f64, f64),
+}
+
+// A feature's fields as given.
+#[derive(Clone, Copy)]
+pub struct Row {
+    pub vertices: [Vector; 4],
+    pub vids: [PackedFeatureId; 4],
+    pub eids: [PackedFeatureId; 4],
+    pub fid: PackedFeatureId,
+    pub num_vertices: usize,
+}
+
+#[derive(Clone, Copy)]
+pub enum Command {
+    // An empty line, or one that begins with `#`.
+    Remark,
+    Shape(Which, Form),
+    Support(Which, Vector, Option<Vector>),
+    Make(Which, Row),
+    Show(Which),
+    Pack(IdKind, u32),
+    Clip((Vector, Vector), (Vector, Vector)),
+    Sqrt(f64),
+}
