@@ -17,9 +17,19 @@ use shape::feature_id::PackedFeatureId;
 use shape::polygonal_feature_map::CylinderFeatures;
 use shape::polygonal_feature_map::PolygonalFeatureMap;
 use shape::polygonal_feature3d::PolygonalFeature;
+ghost use mathlib.Core.Path.{_≡_};
+ghost use Rattle.std.specs.declared.option.Option.the-variants.{Some};
+ghost use Rattle.math.specs.Refusals.{told, told-as};
+ghost use Rattle.shape.specs.Features.{fields, making, made};
+ghost use Rattle.shape.specs.Ids.{packing};
+ghost use Rattle.query.specs.Clips.{clipping};
+ghost use Rattle.bench.specs.declared.answer.Answer.the-variants.{Done, Packed, Clipped};
+ghost use Rattle.bench.specs.Sessions.{form, state, start, shape-at, feature-at, with-shape, with-feature, replied, if-done, forming, support-answer, support-left, row-fields, fields-row, header, answered, performed};
 
 impl Session {
-    pub fn new() -> Session {
+    pub fn new() -> Session
+        ensures { λ r. ⌜ state r ≡ start ⌝ }
+    {
         Session {
             shape1: Solid::Absent,
             shape2: Solid::Absent,
@@ -35,10 +45,13 @@ impl Session {
         }
     }
 
-    pub fn perform(&mut self, command: Command) -> Answer {
+    pub fn perform(&mut self, command: Command) -> Answer
+        ensures answer { λ r. ⌜ r ≡ answered command (state (now (self .entry))) ⌝ }
+        ensures after { λ _. ⌜ state (now (self .exit)) ≡ performed command (state (now (self .entry))) ⌝ }
+    {
         match command {
             Command::Remark => Answer::Nothing,
-            Command::Shape(which, form) => self.set_shape(which, form),
+            Command::Shape(which, sizes) => self.set_shape(which, sizes),
             Command::Support(which, dir, hint) => self.support(which, dir, hint),
             Command::Make(which, row) => self.make(which, row),
             Command::Show(which) => Answer::Feature(row_of(self.feature(which))),
@@ -48,36 +61,47 @@ impl Session {
         }
     }
 
-    fn shape(&self, which: Which) -> Solid {
+    fn shape(&self, which: Which) -> Solid
+        ensures { λ r. ⌜ form r ≡ shape-at which (state (now (self .entry))) ⌝ }
+    {
         match which {
             Which::First => self.shape1,
             Which::Second => self.shape2,
         }
     }
 
-    fn feature(&self, which: Which) -> PolygonalFeature {
+    fn feature(&self, which: Which) -> PolygonalFeature
+        ensures { λ r. ⌜ fields r ≡ feature-at which (state (now (self .entry))) ⌝ }
+    {
         match which {
             Which::First => self.feature1,
             Which::Second => self.feature2,
         }
     }
 
-    fn put_shape(&mut self, which: Which, shape: Solid) {
+    fn put_shape(&mut self, which: Which, shape: Solid)
+        ensures { λ _. ⌜ state (now (self .exit)) ≡ with-shape which (form shape) (state (now (self .entry))) ⌝ }
+    {
         match which {
             Which::First => self.shape1 = shape,
             Which::Second => self.shape2 = shape,
         }
     }
 
-    fn put_feature(&mut self, which: Which, feature: PolygonalFeature) {
+    fn put_feature(&mut self, which: Which, feature: PolygonalFeature)
+        ensures { λ _. ⌜ state (now (self .exit)) ≡ with-feature which (fields feature) (state (now (self .entry))) ⌝ }
+    {
         match which {
             Which::First => self.feature1 = feature,
             Which::Second => self.feature2 = feature,
         }
     }
 
-    fn set_shape(&mut self, which: Which, form: Form) -> Answer {
-        match make_shape(form) {
+    fn set_shape(&mut self, which: Which, sizes: Form) -> Answer
+        ensures answer { λ r. ⌜ r ≡ replied (λ _. Done) (forming sizes) ⌝ }
+        ensures after { λ _. ⌜ state (now (self .exit)) ≡ if-done (forming sizes) (with-shape which (Some sizes) (state (now (self .entry)))) (state (now (self .entry))) ⌝ }
+    {
+        match make_shape(sizes) {
             Ok(shape) => {
                 self.put_shape(which, shape);
                 Answer::Done
@@ -86,14 +110,20 @@ impl Session {
         }
     }
 
-    fn support(&mut self, which: Which, dir: Vector, hint: Option<Vector>) -> Answer {
+    fn support(&mut self, which: Which, dir: Vector, hint: Option<Vector>) -> Answer
+        ensures answer { λ r. ⌜ r ≡ support-answer (shape-at which (state (now (self .entry)))) dir hint ⌝ }
+        ensures after { λ _. ⌜ state (now (self .exit)) ≡ with-feature which (support-left (shape-at which (state (now (self .entry)))) dir hint (feature-at which (state (now (self .entry))))) (state (now (self .entry))) ⌝ }
+    {
         let mut feature = self.feature(which);
         let answer = support_feature(self.shape(which), dir, hint, &mut feature);
         self.put_feature(which, feature);
         answer
     }
 
-    fn make(&mut self, which: Which, row: Row) -> Answer {
+    fn make(&mut self, which: Which, row: Row) -> Answer
+        ensures answer { λ r. ⌜ r ≡ replied (λ _. Done) (making (row-fields row)) ⌝ }
+        ensures after { λ _. ⌜ state (now (self .exit)) ≡ with-feature which (made (row-fields row) (feature-at which (state (now (self .entry))))) (state (now (self .entry))) ⌝ }
+    {
         let mut feature = self.feature(which);
         let result = PolygonalFeature::make(
             row.vertices,
@@ -108,8 +138,10 @@ impl Session {
     }
 }
 
-fn make_shape(form: Form) -> Result<Solid, Refusal> {
-    match form {
+fn make_shape(sizes: Form) -> Result<Solid, Refusal>
+    ensures { λ r. ⌜ told-as form r ≡ forming sizes ⌝ }
+{
+    match sizes {
         Form::Cylinder(half_height, radius) => match Cylinder::new(half_height, radius) {
             Ok(cylinder) => Ok(Solid::Cylinder(cylinder)),
             Err(refusal) => Err(refusal),
@@ -122,14 +154,19 @@ fn support_feature(
     dir: Vector,
     hint: Option<Vector>,
     out: &mut PolygonalFeature,
-) -> Answer {
+) -> Answer
+    ensures answer { λ r. ⌜ r ≡ support-answer (form shape) dir hint ⌝ }
+    ensures after { λ _. ⌜ fields (now (out .exit)) ≡ support-left (form shape) dir hint (fields (now (out .entry))) ⌝ }
+{
     match shape {
         Solid::Absent => Answer::Unreadable(Fault::NoShape),
         Solid::Cylinder(cylinder) => done(cylinder.local_support_feature(dir, hint, out)),
     }
 }
 
-fn row_of(feature: PolygonalFeature) -> Row {
+fn row_of(feature: PolygonalFeature) -> Row
+    ensures { λ r. ⌜ r ≡ fields-row (fields feature) ⌝ }
+{
     let vertices = feature.vertices;
     let vids = feature.vids;
     let eids = feature.eids;
@@ -142,14 +179,18 @@ fn row_of(feature: PolygonalFeature) -> Row {
     }
 }
 
-fn done(result: Result<(), Refusal>) -> Answer {
+fn done(result: Result<(), Refusal>) -> Answer
+    ensures { λ r. ⌜ r ≡ replied (λ _. Done) (told result) ⌝ }
+{
     match result {
         Ok(()) => Answer::Done,
         Err(refusal) => Answer::TurnedDown(refusal.number()),
     }
 }
 
-fn pack(kind: IdKind, code: u32) -> Answer {
+fn pack(kind: IdKind, code: u32) -> Answer
+    ensures { λ r. ⌜ r ≡ replied Packed (packing (header kind) code) ⌝ }
+{
     let result = match kind {
         IdKind::Vertex => PackedFeatureId::vertex(code),
         IdKind::Edge => PackedFeatureId::edge(code),
@@ -161,7 +202,9 @@ fn pack(kind: IdKind, code: u32) -> Answer {
     }
 }
 
-fn clip(first: (Vector, Vector), second: (Vector, Vector)) -> Answer {
+fn clip(first: (Vector, Vector), second: (Vector, Vector)) -> Answer
+    ensures { λ r. ⌜ r ≡ replied Clipped (clipping first second) ⌝ }
+{
     match clip_segment_segment::clip_segment_segment(first, second) {
         Ok(points) => Answer::Clipped(points),
         Err(refusal) => Answer::TurnedDown(refusal.number()),
