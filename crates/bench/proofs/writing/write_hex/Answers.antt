@@ -26,4 +26,4 @@ pub returns : need.returns
 unfolding hex
 returns c =
     let all : c .loop-i .i ≡ c .args .digits = omega arith in
-    cc
+    record { bytes = cc }
