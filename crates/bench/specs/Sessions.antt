@@ -1,6 +1,7 @@
 -- What a session holds, and what each command answers and leaves there.
 use Prim.Native.Nat.{ℕ}
 use mathlib.Core.Bool.{cond}
+use mathlib.Core.Path.{_≡_}
 use lib.Ieee.{Float}
 use Rattle.std.specs.declared.option.Option.{Option}
 use Rattle.std.specs.declared.option.Option.the-variants.{Some, None}
@@ -25,6 +26,7 @@ use Rattle.bench.specs.declared.command.IdKind.the-variants.{Vertex, Edge, Fac
 use Rattle.bench.specs.declared.command.Row.{Row}
 use Rattle.bench.specs.declared.command.Which.{Which}
 use Rattle.bench.specs.declared.command.Which.the-variants.{First, Second}
+use Rattle.bench.specs.declared.fault.Fault.{Fault}
 use Rattle.bench.specs.declared.fault.Fault.the-variants.{NoShape}
 use Rattle.bench.specs.declared.session.Session.{Session}
 use Rattle.bench.specs.declared.session.Solid.{Solid}
@@ -126,3 +128,8 @@ performed (Show w) s = s
 performed (Pack kind code) s = s
 performed (Clip a b) s = s
 performed (Sqrt v) s = s
+
+-- A line is performed as a command, or it cannot be read and changes nothing.
+pub data Ran (s : State) (r : Answer) (t : State) : Type 0 where
+  ran : (c : Command) → r ≡ answered c s → t ≡ performed c s → Ran s r t
+  unread : (f : Fault) → r ≡ Unreadable f → t ≡ s → Ran s r t

@@ -2,17 +2,27 @@
 use std::num::f64_from_bits_with_nan;
 ghost use mathlib.Core.Path.{_≡_};
 ghost use Prim.Native.Nat.{_≤_};
-ghost use Rattle.bench.specs.Numerals.{all-digits, is-numeral, place, hex-value};
+ghost use mathlib.Core.Bool.{true, false};
+ghost use lib.Chars.{codes};
+ghost use lib.ListN.{drop};
+ghost use Rattle.std.specs.FloatTexts.{floatText};
+ghost use Rattle.std.specs.Options.{isSome};
+ghost use Rattle.bench.specs.Numerals.{all-digits, is-numeral, place, hex-value, begins, narrowed, word, bits-number};
 
 // What Rust reads as an f64, or `x` and the sixteen hexadecimal digits of its bits.
-pub fn read_number(text: &str) -> Option<f64> {
-    match text.strip_prefix('x') {
+pub fn read_number(text: &str) -> Option<f64>
+    ensures bits { λ r. ⌜ (begins (codes "x") (now (text .entry)) ≡ true → r ≡ bits-number (drop 1 (now (text .entry)))) ⌝ }
+    ensures reads { λ r. ⌜ (begins (codes "x") (now (text .entry)) ≡ false → isSome r ≡ floatText (now (text .entry))) ⌝ }
+{
+    match text.strip_prefix("x") {
         Some(digits) => read_bits(digits),
         None => text.parse::<f64>().ok(),
     }
 }
 
-fn read_bits(digits: &str) -> Option<f64> {
+fn read_bits(digits: &str) -> Option<f64>
+    ensures { λ r. ⌜ r ≡ bits-number (now (digits .entry)) ⌝ }
+{
     if digits.len() != 16 {
         return None;
     }
@@ -23,13 +33,26 @@ fn read_bits(digits: &str) -> Option<f64> {
 }
 
 // Below 2^32, in decimal or as `0x` and at most eight hexadecimal digits.
-pub fn read_word(text: &str) -> Option<u32> {
-    let value = match text.strip_prefix("0x") {
-        Some(digits) => read_hex(digits, 8),
-        None => read_place(text),
-    };
+pub fn read_word(text: &str) -> Option<u32>
+    ensures { λ r. ⌜ r ≡ word (now (text .entry)) ⌝ }
+{
+    match text.strip_prefix("0x") {
+        Some(digits) => narrow(read_hex(digits, 8)),
+        None => narrow(read_place(text)),
+    }
+}
+
+fn narrow(value: Option<u64>) -> Option<u32>
+    ensures { λ r. ⌜ r ≡ narrowed value ⌝ }
+{
     match value {
-        Some(v) => u32::try_from(v).ok(),
+        Some(v) => {
+            if v < 0x1_0000_0000 {
+                Some(v as u32)
+            } else {
+                None
+            }
+        }
         None => None,
     }
 }

@@ -7,9 +7,14 @@ use crate::command::Which;
 use crate::fault::Fault;
 use crate::words::Words;
 ghost use mathlib.Core.Path.{_≡_};
+ghost use mathlib.Core.Bool.{true};
+ghost use Rattle.std.specs.declared.result.Result.the-variants.{Ok};
+ghost use Rattle.bench.specs.declared.command.Command.the-variants.{Remark};
 ghost use Rattle.bench.specs.Lines.{silent};
 
-pub fn read_command(line: &[u8]) -> Result<Command, Fault> {
+pub fn read_command(line: &[u8]) -> Result<Command, Fault>
+    ensures { λ r. ⌜ (silent (now (line .entry)) ≡ true → r ≡ Ok Remark) ⌝ }
+{
     if is_silent(line) {
         return Ok(Command::Remark);
     }

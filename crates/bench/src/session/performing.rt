@@ -23,8 +23,10 @@ ghost use Rattle.math.specs.Refusals.{told, told-as};
 ghost use Rattle.shape.specs.Features.{fields, making, made};
 ghost use Rattle.shape.specs.Ids.{packing};
 ghost use Rattle.query.specs.Clips.{clipping};
-ghost use Rattle.bench.specs.declared.answer.Answer.the-variants.{Done, Packed, Clipped};
-ghost use Rattle.bench.specs.Sessions.{form, state, start, shape-at, feature-at, with-shape, with-feature, replied, if-done, forming, support-answer, support-left, row-fields, fields-row, header, answered, performed};
+ghost use Rattle.bench.specs.declared.answer.Answer.the-variants.{Nothing, Done, Packed, Clipped};
+ghost use Rattle.bench.specs.Sessions.{form, state, start, shape-at, feature-at, with-shape, with-feature, replied, if-done, forming, support-answer, support-left, row-fields, fields-row, header, answered, performed, Ran};
+ghost use mathlib.Core.Bool.{true};
+ghost use Rattle.bench.specs.Lines.{silent};
 
 impl Session {
     pub fn new() -> Session
@@ -38,7 +40,10 @@ impl Session {
         }
     }
 
-    pub fn run_line(&mut self, line: &[u8]) -> Answer {
+    pub fn run_line(&mut self, line: &[u8]) -> Answer
+        ensures ran { λ r. ⌜ Ran (state (now (self .entry))) r (state (now (self .exit))) ⌝ }
+        ensures silent { λ r. ⌜ (silent (now (line .entry)) ≡ true → r ≡ Nothing) ⌝ }
+    {
         match reading::read_command(line) {
             Ok(command) => self.perform(command),
             Err(fault) => Answer::Unreadable(fault),
