@@ -21,13 +21,13 @@ use Rattle.std.specs.Floats.{withSign, sqrt, rootTwice, finite}
 use Rattle.std.proofs.shelf.Tests.{cases-lt, and-from}
 use Rattle.math.specs.Floats.{_⊕_, _⊗_, _⊘_, root, zero as nought, one, two}
 use Rattle.math.specs.Limits.{limit}
-use Rattle.math.specs.Magnitude.{within, vector2-within}
+use Rattle.math.specs.Magnitude.{bound, within, vector2-within}
 use Rattle.math.specs.Vectors2.{dotted, scaled, reciprocal, usable}
 use Rattle.math.specs.declared.vector2.Vector2.{Vector2}
-use Rattle.math.proofs.Magnitude.{bound, bound-is, no, Small, Large, small-of-within, within-of-small, within-more, within-round, add-within, within-self, small-mul, small-div, small-more}
+use Rattle.math.proofs.Magnitude.{bound-is, no, Small, Large, small-of-within, within-of-small, within-more, within-round, add-within, within-self, small-mul, small-div, small-more}
 use Rattle.math.proofs.OwnValue.{held, exponent-le}
 use Rattle.math.proofs.Parts.{value-small, round-cases, square-bound, sum-left, sum-right, sum-bound}
-use Rattle.math.proofs.Root.{twice-reaches}
+use Rattle.math.proofs.WholeRoot.{twice-reaches}
 use Rattle.math.proofs.UnitMagnitude.{limit-bound, square, square-is-bound, two-squares, squared-within, squared-bound}
 
 -- ---- powers of two are values of the format: 2^t / 2^u for u up to 1074, where it is at most 2^1000

@@ -17,9 +17,9 @@ use lib.Ieee.Scale.{round-same}
 use Rattle.std.specs.Floats.{withSign}
 use Rattle.std.proofs.shelf.Tests.{cases-lt, cases-bool, ltb-true, ltb-false, le-ltb, eqb-true, and-parts, or-parts, eq-eqb}
 use Rattle.math.specs.Floats.{_⊕_, _⊖_, _⊘_, size, one}
-use Rattle.math.specs.Magnitude.{within}
+use Rattle.math.specs.Magnitude.{bound, within}
 use Rattle.math.proofs.AzimuthMagnitude.{power-value}
-use Rattle.math.proofs.Magnitude.{bound, no, Small, Large, small-of-within, within-round, within-more, small-div, sub-within, size-round}
+use Rattle.math.proofs.Magnitude.{no, Small, Large, small-of-within, within-round, within-more, small-div, sub-within, size-round}
 use Rattle.math.proofs.OwnValue.{held, exponent-le}
 use Rattle.math.proofs.Parts.{round-cases, finite-within, value-small}
 

@@ -16,14 +16,7 @@ use lib.Ieee.Order.{round-mono}
 use lib.Ieee.Positive.{num, den, den-pos, through}
 use Rattle.std.specs.Floats.{withSign}
 use Rattle.math.specs.Floats.{size}
-use Rattle.math.specs.Magnitude.{within}
-
--- what may stand as a bound: finite, and not negative
-abbrev pub bound : Float → Bool
-bound nan = false
-bound (inf s) = false
-bound (fin true m e) = false
-bound (fin false m e) = true
+use Rattle.math.specs.Magnitude.{bound, within}
 
 pub no : {X : Type 0} → false ≡ true → X
 no e = absurd (true≢false (sym e))

@@ -15,8 +15,8 @@ use lib.Ieee.Positive.{num, den, den-pos, through}
 use Rattle.std.specs.Floats.{withSign}
 use Rattle.std.proofs.shelf.Tests.{cases-bool, cases-lt}
 use Rattle.math.specs.Floats.{_⊕_, _⊗_, size}
-use Rattle.math.specs.Magnitude.{within}
-use Rattle.math.proofs.Magnitude.{bound, bound-is, no, to-T, Small, small-of-within, within-of-small, within-more, within-round}
+use Rattle.math.specs.Magnitude.{bound, within}
+use Rattle.math.proofs.Magnitude.{bound-is, no, to-T, Small, small-of-within, within-of-small, within-more, within-round}
 use Rattle.math.proofs.OwnValue.{own-value}
 
 -- ---- what is rounded with no sign may stand as a bound, or is the infinity

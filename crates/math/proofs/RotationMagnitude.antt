@@ -7,39 +7,16 @@ use Rattle.std.specs.Floats.{withSign}
 use Rattle.std.proofs.shelf.Tests.{and-parts}
 use Rattle.math.specs.Floats.{_⊕_, _⊖_, _⊗_, two}
 use Rattle.math.specs.Limits.{limit, pose-given, unit-rotation}
-use Rattle.math.specs.Magnitude.{within, vector-within}
+use Rattle.math.specs.Magnitude.{bound, within, vector-within}
+use Rattle.math.specs.MagnitudeLaws.{three-halves, along, product, axial, turned, rotated-bound, rotates, transformed-bound, untransformed-bound}
 use Rattle.math.specs.Poses.{inverted, rotated, transformed, untransformed}
 use Rattle.math.specs.Vectors.{added, subtracted, negated, scaled, dotted, crossed}
 use Rattle.math.specs.declared.pose.Pose.{Pose}
 use Rattle.math.specs.declared.pose.Rotation.{Rotation}
 use Rattle.math.specs.declared.vector.Vector.{Vector}
-use Rattle.math.proofs.Magnitude.{bound, mul-within, difference-within}
-use Rattle.math.proofs.UnitMagnitude.{three-halves, three-halves-bound, two-bound, limit-bound, Accepted, accepted}
+use Rattle.math.proofs.Magnitude.{mul-within, difference-within}
+use Rattle.math.proofs.UnitMagnitude.{three-halves-bound, two-bound, limit-bound, Accepted, accepted}
 use Rattle.math.proofs.VectorMagnitude.{added-within, subtracted-within, scaled-within, dotted-within, crossed-within, negated-within}
-
--- ---- the bounds of the parts, for a vector within v
-
-abbrev along : Float → Float
-along v = v ⊗ two
-
-abbrev product : Float → Float
-product v = v ⊗ three-halves ⊕ v ⊗ three-halves ⊕ v ⊗ three-halves
-
-abbrev axial : Float → Float
-axial v = three-halves ⊗ (product v ⊗ two)
-
-abbrev turned : Float → Float
-turned v = (three-halves ⊗ v ⊕ v ⊗ three-halves) ⊗ (three-halves ⊗ two)
-
--- 24.5 times v, where nothing overflows
-abbrev pub rotated-bound : Float → Float
-rotated-bound v = along v ⊕ axial v ⊕ turned v
-
--- every bound on the way is one
-abbrev pub rotates : Float → Bool
-rotates v =
-    bound v && bound (along v) && bound (v ⊗ three-halves) && bound (three-halves ⊗ v) && bound (v ⊗ three-halves ⊕ v ⊗ three-halves) && bound (product v) && bound (product v ⊗ two) && bound (axial v)
-    && bound (three-halves ⊗ v ⊕ v ⊗ three-halves) && bound (three-halves ⊗ two) && bound (turned v) && bound (along v ⊕ axial v)
 
 two-itself : within two two ≡ true
 unfolding within withSign ofBits le
@@ -77,12 +54,6 @@ module _ (v : Float) (ok : rotates v ≡ true) (q : Rotation) (a : Accepted q) w
       added-within (along v ⊕ axial v) (turned v) (p11 .1) (p10 .1) _ _ (added-within (along v) (axial v) (p1 .1) (p7 .1) _ _ straight onto) across
 
 -- ---- poses
-
-abbrev pub transformed-bound : Float → Float
-transformed-bound v = rotated-bound v ⊕ limit
-
-abbrev pub untransformed-bound : Float → Float
-untransformed-bound v = rotated-bound (v ⊕ limit)
 
 opposite-square : (x : Float) → neg x ⊗ neg x ≡ x ⊗ x
 unfolding neg mul

@@ -8,17 +8,14 @@ use Rattle.std.specs.Floats.{withSign}
 use Rattle.std.proofs.shelf.Tests.{and-parts}
 use Rattle.math.specs.Floats.{_⊕_, _⊗_, bits, two}
 use Rattle.math.specs.Limits.{limit, unit-high, near-one, unit-vector, unit-rotation}
-use Rattle.math.specs.Magnitude.{within, vector-within}
+use Rattle.math.specs.Magnitude.{bound, within, vector-within}
+use Rattle.math.specs.MagnitudeLaws.{three-halves}
 use Rattle.math.specs.Vectors.{dotted}
 use Rattle.math.specs.declared.pose.Rotation.{Rotation}
 use Rattle.math.specs.declared.vector.Vector.{Vector}
-use Rattle.math.proofs.Magnitude.{bound, within-more, mul-within, add-within}
+use Rattle.math.proofs.Magnitude.{within-more, mul-within, add-within}
 use Rattle.math.proofs.Parts.{sum-left, sum-right, sum-bound, square-bound, small-root, within-of-le}
 use Rattle.math.proofs.VectorMagnitude.{Coordinates, coordinates, from-coordinates}
-
--- 1.5
-abbrev pub three-halves : Float
-three-halves = bits 0x3ff8_0000_0000_0000
 
 -- what a sum of at most four squares of numbers that may be given is within
 pub square : Float

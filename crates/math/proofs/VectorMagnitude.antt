@@ -4,12 +4,12 @@ use mathlib.Core.Bool.{Bool, true, _&&_}
 use lib.Ieee.{Float}
 use Rattle.std.proofs.shelf.Tests.{and-parts, and-from}
 use Rattle.math.specs.Floats.{_⊕_, _⊗_}
-use Rattle.math.specs.Magnitude.{within, vector-within, vector2-within}
+use Rattle.math.specs.Magnitude.{bound, within, vector-within, vector2-within}
 use Rattle.math.specs.Vectors.{added, subtracted, negated, scaled, dotted, crossed}
 use Rattle.math.specs.Vectors2 as Plane
 use Rattle.math.specs.declared.vector.Vector.{Vector}
 use Rattle.math.specs.declared.vector2.Vector2.{Vector2}
-use Rattle.math.proofs.Magnitude.{bound, within-more, mul-within, add-within, sub-within, neg-within}
+use Rattle.math.proofs.Magnitude.{within-more, mul-within, add-within, sub-within, neg-within}
 
 pub record Coordinates (b : Float) (v : Vector) : Type 0 where
   pub x : within b (v .x) ≡ true
@@ -80,3 +80,36 @@ module _ (b c : Float) (k : bound b ≡ true) (l : bound c ≡ true) where
         let y = mul-within b c (u .y) (v .y) k l (p .y) (q .y) in
         let z = mul-within b c (u .z) (v .z) k l (p .z) (q .z) in
         add-within (b ⊗ c ⊕ b ⊗ c) (b ⊗ c) (u .x ⊗ v .x ⊕ u .y ⊗ v .y) (u .z ⊗ v .z) n m (add-within (b ⊗ c) (b ⊗ c) (u .x ⊗ v .x) (u .y ⊗ v .y) m m x y) z
+
+-- ---- in the plane
+
+pub record Plane-coordinates (b : Float) (v : Vector2) : Type 0 where
+  pub x : within b (v .x) ≡ true
+  pub y : within b (v .y) ≡ true
+
+pub plane-coordinates : (b : Float) (v : Vector2) → vector2-within b v ≡ true → Plane-coordinates b v
+unfolding vector2-within
+plane-coordinates b v e = let p = and-parts _ _ e in record { x = p .0; y = p .1 }
+
+module _ (b c : Float) (k : bound b ≡ true) (l : bound c ≡ true) where
+  pub plane-subtracted-within : (u v : Vector2) → vector2-within b u ≡ true → vector2-within c v ≡ true → vector2-within (b ⊕ c) (Plane.subtracted u v) ≡ true
+  unfolding Plane.subtracted vector2-within
+  plane-subtracted-within u v h j =
+      let p = plane-coordinates b u h in
+      let q = plane-coordinates c v j in
+      and-from _ _ (sub-within b c _ _ k l (p .x) (q .x)) (sub-within b c _ _ k l (p .y) (q .y))
+
+  module _ (m : bound (b ⊗ c) ≡ true) where
+    pub plane-dotted-within : (u v : Vector2) → vector2-within b u ≡ true → vector2-within c v ≡ true → within (b ⊗ c ⊕ b ⊗ c) (Plane.dotted u v) ≡ true
+    unfolding Plane.dotted
+    plane-dotted-within u v h j =
+        let p = plane-coordinates b u h in
+        let q = plane-coordinates c v j in
+        add-within (b ⊗ c) (b ⊗ c) (u .x ⊗ v .x) (u .y ⊗ v .y) m m (mul-within b c _ _ k l (p .x) (q .x)) (mul-within b c _ _ k l (p .y) (q .y))
+
+    pub perp-dotted-within : (u v : Vector2) → vector2-within b u ≡ true → vector2-within c v ≡ true → within (b ⊗ c ⊕ b ⊗ c) (Plane.perp-dotted u v) ≡ true
+    unfolding Plane.perp-dotted
+    perp-dotted-within u v h j =
+        let p = plane-coordinates b u h in
+        let q = plane-coordinates c v j in
+        sub-within (b ⊗ c) (b ⊗ c) (u .x ⊗ v .y) (u .y ⊗ v .x) m m (mul-within b c _ _ k l (p .x) (q .y)) (mul-within b c _ _ k l (p .y) (q .x))

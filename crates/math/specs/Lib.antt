@@ -4,6 +4,8 @@ pub mod Vectors2
 pub mod Basis
 pub mod Poses
 pub mod Magnitude
+pub mod MagnitudeLaws
 pub mod Limits
 pub mod Nearly
 pub mod Refusals
+pub mod Roots

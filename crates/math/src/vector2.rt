@@ -1,5 +1,9 @@
 // The vector in the plane, and its normalisation.
+use crate::limits;
+use crate::root;
 ghost use mathlib.Core.Path.{_≡_};
+ghost use Rattle.math.specs.Limits.{limit};
+ghost use Rattle.math.specs.Magnitude.{vector2-within};
 ghost use Rattle.math.specs.Vectors2.{subtracted, scaled, dotted, perp-dotted, normalized};
 
 #[derive(Clone, Copy)]
@@ -55,11 +59,18 @@ impl Vector2 {
     pub fn try_normalize(self) -> Option<Vector2>
         ensures { λ r. ⌜ r ≡ normalized self ⌝ }
     {
-        let rcp = 1.0 / self.length_squared().sqrt();
+        let rcp = 1.0 / root::sqrt(self.length_squared());
         if rcp.is_finite() & (rcp > 0.0) {
             Some(self.scale(rcp))
         } else {
             None
         }
+    }
+
+    // Both coordinates may be given.
+    pub fn is_given(self) -> bool
+        ensures { λ r. ⌜ r ≡ vector2-within limit self ⌝ }
+    {
+        limits::is_given(self.x) & limits::is_given(self.y)
     }
 }

@@ -13,13 +13,13 @@ use Rattle.std.specs.declared.option.Option.the-variants.{Some, None}
 use Rattle.std.proofs.shelf.Tests.{cases-bool, or-parts, cond-true, cond-false, and-from, or-left, or-right}
 use Rattle.math.specs.Floats.{_⊕_, _⊖_, _⊗_, _⊘_, bits, zero, one}
 use Rattle.math.specs.Limits.{limit}
-use Rattle.math.specs.Magnitude.{within, vector-within}
+use Rattle.math.specs.Magnitude.{bound, within, vector-within}
 use Rattle.math.specs.Refusals.{Answer, done, refused}
 use Rattle.math.specs.Vectors.{added, subtracted, scaled, dotted}
 use Rattle.math.specs.declared.vector.Vector.{Vector}
 use Rattle.math.proofs.Fraction.{fraction-within, squeezed, lt-not-eq, lt-asym}
-use Rattle.math.proofs.Magnitude.{bound, no, within-more}
-use Rattle.math.proofs.RotationMagnitude.{transformed-bound}
+use Rattle.math.proofs.Magnitude.{no, within-more}
+use Rattle.math.specs.MagnitudeLaws.{transformed-bound}
 use Rattle.math.proofs.VectorMagnitude.{vector-more, added-within, subtracted-within, scaled-within, dotted-within}
 use Rattle.shape.specs.Nearness.{vertex-limit}
 use Rattle.query.specs.Clips.{Segment, Clip, clip-limit, clip-near, both-ends, clipped, product, ordered, forward, backward, undefined, apart, between, low-end, high-end}

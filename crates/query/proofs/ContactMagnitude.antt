@@ -8,15 +8,17 @@ use Rattle.std.specs.declared.option.Option.the-variants.{Some}
 use Rattle.std.proofs.shelf.Tests.{and-parts, and-from}
 use Rattle.math.specs.Floats.{_⊕_, _⊗_, size, bits}
 use Rattle.math.specs.Limits.{limit, vector-given, pose-given, unit-rotation, unit-vector}
-use Rattle.math.specs.Magnitude.{within, vector-within}
+use Rattle.math.specs.MagnitudeLaws.{three-halves}
+use Rattle.math.specs.Magnitude.{bound, within, vector-within}
 use Rattle.math.specs.Refusals.{done}
 use Rattle.math.specs.Poses.{transformed, untransformed}
 use Rattle.math.specs.Vectors.{subtracted, dotted}
 use Rattle.math.specs.declared.pose.Pose.{Pose}
 use Rattle.math.specs.declared.vector.Vector.{Vector}
-use Rattle.math.proofs.Magnitude.{bound, below-of-within}
-use Rattle.math.proofs.RotationMagnitude.{rotated-bound, rotates, transformed-bound, untransformed-bound, transformed-within, untransformed-within}
-use Rattle.math.proofs.UnitMagnitude.{three-halves, three-halves-bound, unit-components}
+use Rattle.math.proofs.Magnitude.{below-of-within}
+use Rattle.math.specs.MagnitudeLaws.{rotated-bound, rotates, transformed-bound, untransformed-bound}
+use Rattle.math.proofs.RotationMagnitude.{transformed-within, untransformed-within}
+use Rattle.math.proofs.UnitMagnitude.{three-halves-bound, unit-components}
 use Rattle.math.proofs.VectorMagnitude.{coordinates, subtracted-within, dotted-within}
 use Rattle.shape.specs.Features.{Fields}
 use Rattle.shape.specs.Nearness.{vertex-limit, vertex-at, all-within, near-all}

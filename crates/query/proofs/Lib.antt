@@ -1,4 +1,5 @@
 pub mod Buffers
 pub mod ClipMagnitude
 pub mod ContactMagnitude
+pub mod EricsonLaw
 pub mod Numbers

@@ -4,3 +4,4 @@ pub mod Contacts
 pub mod Clips
 pub mod Edges
 pub mod Lines
+pub mod Meeting

@@ -8,10 +8,10 @@ use Rattle.std.proofs.shelf.Tests.{and-parts, and-from}
 use Rattle.math.specs.Basis.{signed}
 use Rattle.math.specs.Floats.{_⊗_, opposite, zero, two}
 use Rattle.math.specs.Limits.{limit}
-use Rattle.math.specs.Magnitude.{within, vector-within, vector2-within}
+use Rattle.math.specs.Magnitude.{bound, within, vector-within, vector2-within}
 use Rattle.math.specs.declared.vector.Vector.{Vector}
 use Rattle.math.specs.declared.vector2.Vector2.{Vector2}
-use Rattle.math.proofs.Magnitude.{bound, within-more, mul-within, neg-within}
+use Rattle.math.proofs.Magnitude.{within-more, mul-within, neg-within}
 use Rattle.math.proofs.UnitMagnitude.{limit-bound, two-bound}
 use Rattle.math.proofs.VectorMagnitude.{Coordinates, from-coordinates, vector-more}
 use Rattle.shape.specs.Cylinders.{side, rim}
@@ -31,7 +31,7 @@ twice-limit : two ⊗ limit ≡ vertex-limit
 unfolding ofBits mul round
 twice-limit = refl
 
-given-near : (x : Float) → within limit x ≡ true → within vertex-limit x ≡ true
+pub given-near : (x : Float) → within limit x ≡ true → within vertex-limit x ≡ true
 given-near x h = within-more limit vertex-limit x limit-bound vertex-limit-bound limit-nearer h
 
 pub vertex-near : (v : Vector) → vector-within limit v ≡ true → vector-within vertex-limit v ≡ true
@@ -49,7 +49,7 @@ pub origin-near : vector-within vertex-limit origin ≡ true
 unfolding vector-within within withSign ofBits le
 origin-near = refl
 
-size-given : (x : Float) → is-size x ≡ true → within limit x ≡ true
+pub size-given : (x : Float) → is-size x ≡ true → within limit x ≡ true
 unfolding is-size
 size-given x h = and-parts _ _ h .0
 
@@ -67,7 +67,7 @@ signed-within b s nan h = h
 signed-within b s (inf t) h = h
 signed-within b s (fin t m e) h = h
 
-point : (x y z : Float) → within vertex-limit x ≡ true → within vertex-limit y ≡ true → within vertex-limit z ≡ true → vector-within vertex-limit (record { x = x; y = y; z = z }) ≡ true
+pub point : (x y z : Float) → within vertex-limit x ≡ true → within vertex-limit y ≡ true → within vertex-limit z ≡ true → vector-within vertex-limit (record { x = x; y = y; z = z }) ≡ true
 point x y z X Y Z = from-coordinates vertex-limit (record { x = x; y = y; z = z }) (record { x = X; y = Y; z = Z })
 
 module _ (hh r : Float) (az : Vector2) (H : is-size hh ≡ true) (R : is-size r ≡ true) (A : vector2-within two az ≡ true) where

@@ -1,6 +1,8 @@
 -- The cylinder: its sizes, the azimuth of its feature, and the feature.
-use Prim.Native.Nat.{ℕ}
-use mathlib.Core.Bool.{Bool, cond, _&&_}
+use Prim.Native.Nat.{ℕ, suc, _<_}
+use mathlib.Core.Path.{_≡_}
+use mathlib.Core.Logic.{_⊎_}
+use mathlib.Core.Bool.{Bool, true, false, cond, _&&_}
 use mathlib.Core.List.{List, [], _∷_}
 use lib.Ieee as Ieee
 use lib.Ieee.{Float}
@@ -15,6 +17,7 @@ use Rattle.math.specs.declared.vector.Vector.{Vector}
 use Rattle.math.specs.declared.vector2.Vector2.{Vector2}
 use Rattle.shape.specs.Features.{Fields, origin}
 use Rattle.shape.specs.Ids.{packed, vertexHeader, edgeHeader, faceHeader}
+use Rattle.shape.specs.Nearness.{vertex-at}
 use Rattle.shape.specs.Supports.{Meaning}
 use Rattle.shape.specs.declared.feature_id.PackedFeatureId.{PackedFeatureId}
 use Rattle.shape.specs.declared.cylinder.Cylinder.{Cylinder}
@@ -99,3 +102,35 @@ cylinder-fields hh r dir az = cond (Ieee.lt (size (dir .y)) half) (side hh r az)
 
 unfoldable pub cylinder-meaning : Meaning Cylinder
 cylinder-meaning c dir hint = cylinder-fields (c .«half_height») (c .radius) dir (azimuth dir hint)
+
+-- ---- laws
+
+-- The azimuth is the hint's; or the hint gives none and it is the direction's; or neither gives one and it is along x.
+abbrev pub Azimuth-from : Vector → Option Vector → Vector2 → Type 0
+Azimuth-from dir hint az =
+    (from-hint hint ≡ Some az) ⊎ ((from-hint hint ≡ None) × (normalized (flat dir) ≡ Some az)) ⊎ ((from-hint hint ≡ None) × (normalized (flat dir) ≡ None) × (az ≡ record { x = one; y = zero }))
+
+-- the point of the curved side at a height and an azimuth
+abbrev pub rim-point : Float → Float → Vector2 → Vector
+rim-point y r az = record { x = az .x ⊗ r; y = y; z = az .y ⊗ r }
+
+-- a quarter turn around the y axis, from x towards z
+abbrev pub quarter-turned : Vector → Vector
+quarter-turned v = record { x = opposite (v .z); y = v .y; z = v .x }
+
+-- from the lower rim up to the upper one
+pub record Segment-at (hh r : Float) (az : Vector2) (f : Fields) : Type 0 where
+  pub two-vertices : f .count ≡ 2
+  pub lower : vertex-at (f .vertices) 0 ≡ rim-point (opposite hh) r az
+  pub upper : vertex-at (f .vertices) 1 ≡ rim-point hh r az
+
+-- on one rim, each vertex a quarter turn from the one before
+pub record Square-at (y r : Float) (az : Vector2) (f : Fields) : Type 0 where
+  pub four-vertices : f .count ≡ 4
+  pub first : vertex-at (f .vertices) 0 ≡ rim-point y r az
+  pub next : (i : ℕ) → i < 3 → vertex-at (f .vertices) (suc i) ≡ quarter-turned (vertex-at (f .vertices) i)
+
+-- the segment where y is below 0.5 in size, else the square on the rim on y's side
+pub record Stands-at (hh r : Float) (dir : Vector) (az : Vector2) (f : Fields) : Type 0 where
+  pub beside : Ieee.lt (size (dir .y)) half ≡ true → Segment-at hh r az f
+  pub above-or-below : Ieee.lt (size (dir .y)) half ≡ false → Square-at (signed (dir .y) hh) r az f

@@ -5,12 +5,24 @@ ghost use Prim.Native.Nat.{_^_, _<_};
 ghost use mathlib.Core.List.{_∷_, []};
 ghost use lib.ListN.{getD};
 ghost use Rattle.math.specs.Refusals.{told};
-ghost use Rattle.shape.specs.Ids.{vertexHeader, edgeHeader, faceHeader, packed, packing};
+ghost use Rattle.shape.specs.Ids.{vertexHeader, edgeHeader, faceHeader, packed, packing, has-header, unpacked, Unpacks-to, Only-from, Packs-back, is-nothing};
+
+#[derive(Clone, Copy, PartialEq, Eq)]
+pub enum FeatureId {
+    Vertex(u32),
+    Edge(u32),
+    Face(u32),
+    Unknown,
+}
 
 #[derive(Clone, Copy, PartialEq, Eq)]
 pub struct PackedFeatureId(pub u32);
 
 const CODE_LIMIT: u32 = 0x4000_0000;
+
+const CODE_MASK: u32 = 0x3fff_ffff;
+
+const CODE_BITS: u32 = 30;
 
 const HEADER_VERTEX: u32 = 0x4000_0000;
 
@@ -23,7 +35,9 @@ impl PackedFeatureId {
     pub const UNKNOWN: PackedFeatureId = PackedFeatureId(0);
 
     pub fn vertex(code: u32) -> Result<PackedFeatureId, Refusal>
-        ensures { λ r. ⌜ told r ≡ packing vertexHeader code ⌝ }
+        ensures value { λ r. ⌜ told r ≡ packing vertexHeader code ⌝ }
+        ensures back { λ r. ⌜ Unpacks-to (told r) (FeatureId.Vertex code) ⌝ }
+        ensures only { λ r. ⌜ Only-from (told r) vertexHeader code ⌝ }
     {
         if code >= CODE_LIMIT {
             return Err(Refusal::CodeTooLarge);
@@ -32,7 +46,9 @@ impl PackedFeatureId {
     }
 
     pub fn edge(code: u32) -> Result<PackedFeatureId, Refusal>
-        ensures { λ r. ⌜ told r ≡ packing edgeHeader code ⌝ }
+        ensures value { λ r. ⌜ told r ≡ packing edgeHeader code ⌝ }
+        ensures back { λ r. ⌜ Unpacks-to (told r) (FeatureId.Edge code) ⌝ }
+        ensures only { λ r. ⌜ Only-from (told r) edgeHeader code ⌝ }
     {
         if code >= CODE_LIMIT {
             return Err(Refusal::CodeTooLarge);
@@ -41,7 +57,9 @@ impl PackedFeatureId {
     }
 
     pub fn face(code: u32) -> Result<PackedFeatureId, Refusal>
-        ensures { λ r. ⌜ told r ≡ packing faceHeader code ⌝ }
+        ensures value { λ r. ⌜ told r ≡ packing faceHeader code ⌝ }
+        ensures back { λ r. ⌜ Unpacks-to (told r) (FeatureId.Face code) ⌝ }
+        ensures only { λ r. ⌜ Only-from (told r) faceHeader code ⌝ }
     {
         if code >= CODE_LIMIT {
             return Err(Refusal::CodeTooLarge);
@@ -92,5 +110,47 @@ impl PackedFeatureId {
             PackedFeatureId::packed_edge(code[2]),
             PackedFeatureId::packed_edge(code[3]),
         ]
+    }
+
+    // An id under the header 00 names nothing, whatever its code.
+    pub fn unpack(self) -> FeatureId
+        ensures value { λ r. ⌜ r ≡ unpacked self ⌝ }
+        ensures back { λ r. ⌜ Packs-back self r ⌝ }
+    {
+        let code = self.0 & CODE_MASK;
+        if self.is_vertex() {
+            return FeatureId::Vertex(code);
+        }
+        if self.is_edge() {
+            return FeatureId::Edge(code);
+        }
+        if self.is_face() {
+            return FeatureId::Face(code);
+        }
+        FeatureId::Unknown
+    }
+
+    pub fn is_face(self) -> bool
+        ensures { λ r. ⌜ r ≡ has-header faceHeader self ⌝ }
+    {
+        self.0 >> CODE_BITS == HEADER_FACE >> CODE_BITS
+    }
+
+    pub fn is_vertex(self) -> bool
+        ensures { λ r. ⌜ r ≡ has-header vertexHeader self ⌝ }
+    {
+        self.0 >> CODE_BITS == HEADER_VERTEX >> CODE_BITS
+    }
+
+    pub fn is_edge(self) -> bool
+        ensures { λ r. ⌜ r ≡ has-header edgeHeader self ⌝ }
+    {
+        self.0 >> CODE_BITS == HEADER_EDGE >> CODE_BITS
+    }
+
+    pub fn is_unknown(self) -> bool
+        ensures { λ r. ⌜ r ≡ is-nothing self ⌝ }
+    {
+        self.0 == PackedFeatureId::UNKNOWN.0
     }
 }

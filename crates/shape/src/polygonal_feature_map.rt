@@ -1,4 +1,5 @@
-// What every shape answers: one polygonal feature for a direction and an optional hint. The cylinder's answer stands here too.
+// What every shape answers: one polygonal feature for a direction and an optional hint. The answers of the cuboid and the cylinder stand here too.
+use crate::cuboid::Cuboid;
 use crate::cylinder::Cylinder;
 use crate::feature_id::PackedFeatureId;
 use crate::polygonal_feature3d::PolygonalFeature;
@@ -13,7 +14,8 @@ ghost use Rattle.math.specs.Magnitude.{vector2-within};
 ghost use Rattle.math.specs.Refusals.{told};
 ghost use Rattle.shape.specs.Features.{fields};
 ghost use Rattle.shape.specs.Supports.{Meaning, hint-given, direction-given, supporting};
-ghost use Rattle.shape.specs.Cylinders.{azimuth, side, cap, cylinder-fields, cylinder-meaning};
+ghost use Rattle.shape.specs.Cuboids.{cuboid-meaning};
+ghost use Rattle.shape.specs.Cylinders.{azimuth, side, cap, cylinder-fields, cylinder-meaning, Azimuth-from, Stands-at};
 
 pub trait PolygonalFeatureMap {
     // The fields of the feature, for a shape, a direction and a hint.
@@ -57,6 +59,24 @@ fn feature_azimuth(dir: Vector, hint: Option<Vector>) -> Vector2
 }
 
 impl Cylinder {
+    pub fn support_feature(
+        &self,
+        dir: Vector,
+        hint: Option<Vector>,
+        out_feature: &mut PolygonalFeature,
+    ) -> Result<(), Refusal>
+        ensures answer { λ r. ⌜ told r ≡ supporting dir hint ⌝ }
+        ensures after { λ r. ⌜ fields (now («out_feature» .exit)) ≡ cond (direction-given dir hint) (cylinder-meaning (now (self .entry)) dir hint) (fields (now («out_feature» .entry))) ⌝ }
+        ensures source { λ r. ⌜ Azimuth-from dir hint (azimuth dir hint) ⌝ }
+        ensures vertices { λ r. ⌜ (direction-given dir hint ≡ true → Stands-at (now (self .entry) .«half_height») (now (self .entry) .radius) dir (azimuth dir hint) (fields (now («out_feature» .exit)))) ⌝ }
+    {
+        if !(dir.is_given() & is_hint_given(hint)) {
+            return Err(Refusal::NumberOutOfRange);
+        }
+        self.support_feature_with_azimuth(dir, feature_azimuth(dir, hint), out_feature);
+        Ok(())
+    }
+
     // The curved side is one segment, each cap a square on its rim.
     fn support_feature_with_azimuth(
         &self,
@@ -133,10 +153,23 @@ pub impl PolygonalFeatureMap for Cylinder as CylinderFeatures {
         hint: Option<Vector>,
         out_feature: &mut PolygonalFeature,
     ) -> Result<(), Refusal> {
-        if !(dir.is_given() & is_hint_given(hint)) {
+        self.support_feature(dir, hint, out_feature)
+    }
+}
+
+pub impl PolygonalFeatureMap for Cuboid as CuboidFeatures {
+    ghost meaning = { cuboid-meaning };
+
+    // The hint is a number given, though it is not read.
+    fn local_support_feature(
+        &self,
+        dir: Vector,
+        hint: Option<Vector>,
+        out_feature: &mut PolygonalFeature,
+    ) -> Result<(), Refusal> {
+        if !is_hint_given(hint) {
             return Err(Refusal::NumberOutOfRange);
         }
-        self.support_feature_with_azimuth(dir, feature_azimuth(dir, hint), out_feature);
-        Ok(())
+        self.support_face(dir, out_feature)
     }
 }

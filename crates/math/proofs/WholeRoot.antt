@@ -31,7 +31,7 @@ pow-grows : (k : ℕ) → 2 ^ k ≤ 4 ^ k
 pow-grows zero = omega arith
 pow-grows (suc k) = let a : 2 ^ suc k ≡ 2 ^ k * 2 = pow-suc 2 k in let b : 4 ^ suc k ≡ 4 ^ k * 4 = pow-suc 4 k in omega (arith, pow-grows k)
 
-pub whole-root : ℕ → ℕ
+unfoldable pub whole-root : ℕ → ℕ
 whole-root n = rootBelow (size n) n
 
 pub whole-root-is : (n : ℕ) → WholeRoot (whole-root n) n
