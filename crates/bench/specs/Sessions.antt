@@ -9,16 +9,19 @@ use Rattle.math.specs.Floats.{root}
 use Rattle.math.specs.Refusals as Refusals
 use Rattle.math.specs.Refusals.{done, refused}
 use Rattle.math.specs.declared.vector.Vector.{Vector}
+use Rattle.shape.specs.Cuboids as Cuboids
 use Rattle.shape.specs.Cylinders as Cylinders
 use Rattle.shape.specs.Features.{Fields, fields, nothing}
 use Rattle.shape.specs.Features as Features
 use Rattle.shape.specs.Ids.{vertexHeader, edgeHeader, faceHeader, packing}
+use Rattle.shape.specs.Moves.{moving, moved-or-kept}
 use Rattle.shape.specs.Supports.{direction-given, supporting}
 use Rattle.query.specs.Clips.{clipping}
+use Rattle.query.specs.Meeting.{meeting-answer}
 use Rattle.bench.specs.declared.answer.Answer.{Answer}
-use Rattle.bench.specs.declared.answer.Answer.the-variants.{Nothing, Done, TurnedDown, Unreadable, Feature, Packed, Clipped, Root}
+use Rattle.bench.specs.declared.answer.Answer.the-variants.{Nothing, Done, TurnedDown, Unreadable, Feature, Packed, Clipped, Meeting, Root}
 use Rattle.bench.specs.declared.command.Command.{Command}
-use Rattle.bench.specs.declared.command.Command.the-variants.{Remark, Shape, Support, Make, Show, Pack, Clip, Sqrt}
+use Rattle.bench.specs.declared.command.Command.the-variants.{Remark, Shape, Support, Make, Transform, Show, Pack, Clip, Lines, Sqrt}
 use Rattle.bench.specs.declared.command.Form.{Form}
 use Rattle.bench.specs.declared.command.Form.the-variants as Form-of
 use Rattle.bench.specs.declared.command.IdKind.{IdKind}
@@ -36,6 +39,7 @@ use Rattle.bench.specs.declared.session.Solid.the-variants as Solid-of
 abbrev pub form : Solid → Option Form
 form Solid-of.Absent = None
 form (Solid-of.Cylinder c) = Some (Form-of.Cylinder (c .«half_height») (c .radius))
+form (Solid-of.Cuboid c) = Some (Form-of.Cuboid (c .«half_extents»))
 
 -- the two shapes and the two features
 pub record State : Type 0 where
@@ -83,10 +87,12 @@ formed f (refused n) = refused n
 
 abbrev pub forming : Form → Refusals.Answer (Option Form)
 forming (Form-of.Cylinder hh r) = formed (Form-of.Cylinder hh r) (Cylinders.making hh r)
+forming (Form-of.Cuboid he) = formed (Form-of.Cuboid he) (Cuboids.making he)
 
 -- the feature of a shape along a direction
 abbrev pub supported : Form → Vector → Option Vector → Fields
 supported (Form-of.Cylinder hh r) dir hint = Cylinders.cylinder-fields hh r dir (Cylinders.azimuth dir hint)
+supported (Form-of.Cuboid he) dir hint = Cuboids.cuboid-fields he dir
 
 -- A shape that is not there is no refusal: the line cannot be read.
 abbrev pub support-answer : Option Form → Vector → Option Vector → Answer
@@ -113,9 +119,11 @@ answered Remark s = Nothing
 answered (Shape w f) s = replied (λ _. Done) (forming f)
 answered (Support w dir hint) s = support-answer (shape-at w s) dir hint
 answered (Make w row) s = replied (λ _. Done) (Features.making (row-fields row))
+answered (Transform w pose) s = replied (λ _. Done) (moving pose (feature-at w s))
 answered (Show w) s = Feature (fields-row (feature-at w s))
 answered (Pack kind code) s = replied Packed (packing (header kind) code)
 answered (Clip a b) s = replied Clipped (clipping a b)
+answered (Lines a b) s = replied Meeting (meeting-answer a b)
 answered (Sqrt v) s = Root (root v)
 
 -- A command that is turned down or cannot be read leaves all as it was.
@@ -124,9 +132,11 @@ performed Remark s = s
 performed (Shape w f) s = if-done (forming f) (with-shape w (Some f) s) s
 performed (Support w dir hint) s = with-feature w (support-left (shape-at w s) dir hint (feature-at w s)) s
 performed (Make w row) s = with-feature w (Features.made (row-fields row) (feature-at w s)) s
+performed (Transform w pose) s = with-feature w (moved-or-kept pose (feature-at w s)) s
 performed (Show w) s = s
 performed (Pack kind code) s = s
 performed (Clip a b) s = s
+performed (Lines a b) s = s
 performed (Sqrt v) s = s
 
 -- A line is performed as a command, or it cannot be read and changes nothing.

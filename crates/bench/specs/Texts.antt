@@ -15,7 +15,7 @@ use Rattle.query.specs.Clips as Clips
 use Rattle.query.specs.Lines.{hex, pattern}
 use Rattle.bench.specs.Faults.{worded}
 use Rattle.bench.specs.declared.answer.Answer.{Answer}
-use Rattle.bench.specs.declared.answer.Answer.the-variants.{Nothing, Done, TurnedDown, Unreadable, Feature, Packed, Clipped, Root}
+use Rattle.bench.specs.declared.answer.Answer.the-variants.{Nothing, Done, TurnedDown, Unreadable, Feature, Packed, Clipped, Meeting, Root}
 use Rattle.bench.specs.declared.command.Row.{Row}
 
 -- the text stands behind what was there
@@ -61,6 +61,11 @@ abbrev pub clips-text : Option (Clips.Clip × Clips.Clip) → List ℕ
 clips-text None = codes "none" ++ newline
 clips-text (Some both) = clip-text (both .0) ++ clip-text (both .1)
 
+-- how far along each line
+abbrev pub meeting-text : Option (Float × Float) → List ℕ
+meeting-text None = codes "none" ++ newline
+meeting-text (Some both) = number-text (both .0) ++ (space ++ (number-text (both .1) ++ newline))
+
 abbrev pub root-text : Float → List ℕ
 root-text v = cond (Ieee.isNan v) (codes "nan" ++ newline) (number-text v ++ newline)
 
@@ -72,4 +77,5 @@ written (Unreadable f) = codes "error: " ++ (worded f ++ newline)
 written (Feature r) = row-text r
 written (Packed id) = hex 8 (id .0) ++ newline
 written (Clipped points) = clips-text points
+written (Meeting places) = meeting-text places
 written (Root v) = root-text v

@@ -14,5 +14,7 @@ pub enum Answer {
     Feature(Row),
     Packed(PackedFeatureId),
     Clipped(Option<(ClippingPoints, ClippingPoints)>),
+    // How far along each line.
+    Meeting(Option<(f64, f64)>),
     Root(f64),
 }

@@ -1,5 +1,7 @@
 // The commands of a script, as they are read from its lines.
+use math::pose::Pose;
 use math::vector::Vector;
+use math::vector2::Vector2;
 use shape::feature_id::PackedFeatureId;
 
 // The shape and the feature that a command means.
@@ -21,6 +23,8 @@ pub enum IdKind {
 pub enum Form {
     // Half height, then radius.
     Cylinder(f64, f64),
+    // Half extents.
+    Cuboid(Vector),
 }
 
 // A feature's fields as given.
@@ -40,8 +44,10 @@ pub enum Command {
     Shape(Which, Form),
     Support(Which, Vector, Option<Vector>),
     Make(Which, Row),
+    Transform(Which, Pose),
     Show(Which),
     Pack(IdKind, u32),
     Clip((Vector, Vector), (Vector, Vector)),
+    Lines([Vector2; 2], [Vector2; 2]),
     Sqrt(f64),
 }

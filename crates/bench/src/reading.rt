@@ -50,6 +50,7 @@ fn read_named(name: &str, words: &mut Words<'_>) -> Result<Command, Fault> {
         "feature" => read_feature(words),
         "id" => read_id(words),
         "clip" => read_clip(words),
+        "lines" => read_lines(words),
         "sqrt" => Ok(Command::Sqrt(words.number()?)),
         _ => Err(Fault::UnknownCommand),
     }
@@ -63,6 +64,7 @@ fn read_shape(words: &mut Words<'_>) -> Result<Command, Fault> {
             let radius = words.number()?;
             Ok(Command::Shape(which, Form::Cylinder(half_height, radius)))
         }
+        "cuboid" => Ok(Command::Shape(which, Form::Cuboid(words.vector()?))),
         _ => Err(Fault::UnknownCommand),
     }
 }
@@ -76,6 +78,7 @@ fn read_feature(words: &mut Words<'_>) -> Result<Command, Fault> {
             Ok(Command::Support(which, dir, hint))
         }
         "make" => read_make(which, words),
+        "transform" => Ok(Command::Transform(which, words.pose()?)),
         "show" => Ok(Command::Show(which)),
         _ => Err(Fault::UnknownCommand),
     }
@@ -113,4 +116,10 @@ fn read_clip(words: &mut Words<'_>) -> Result<Command, Fault> {
     let first = words.segment()?;
     let second = words.segment()?;
     Ok(Command::Clip(first, second))
+}
+
+fn read_lines(words: &mut Words<'_>) -> Result<Command, Fault> {
+    let first = words.segment2()?;
+    let second = words.segment2()?;
+    Ok(Command::Lines(first, second))
 }

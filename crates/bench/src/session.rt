@@ -1,4 +1,5 @@
 // What a script has put in place so far: two shapes, or none yet, and two features.
+use shape::cuboid::Cuboid;
 use shape::cylinder::Cylinder;
 use shape::polygonal_feature3d::PolygonalFeature;
 
@@ -8,6 +9,7 @@ pub mod performing;
 pub enum Solid {
     Absent,
     Cylinder(Cylinder),
+    Cuboid(Cuboid),
 }
 
 #[derive(Drop)]

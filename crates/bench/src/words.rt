@@ -2,7 +2,10 @@
 use crate::command::Which;
 use crate::fault::Fault;
 use crate::numbers;
+use math::pose::Pose;
+use math::pose::Rotation;
 use math::vector::Vector;
+use math::vector2::Vector2;
 use shape::feature_id::PackedFeatureId;
 
 #[derive(Clone, Copy)]
@@ -68,6 +71,26 @@ impl<'a> Words<'a> {
         let start = self.vector()?;
         let end = self.vector()?;
         Ok((start, end))
+    }
+
+    // Translation, then rotation: its vector part and its scalar part.
+    pub fn pose(&mut self) -> Result<Pose, Fault> {
+        let translation = self.vector()?;
+        let b = self.vector()?;
+        let w = self.number()?;
+        Ok(Pose::new(Rotation::new(b, w), translation))
+    }
+
+    pub fn point2(&mut self) -> Result<Vector2, Fault> {
+        let x = self.number()?;
+        let y = self.number()?;
+        Ok(Vector2::new(x, y))
+    }
+
+    pub fn segment2(&mut self) -> Result<[Vector2; 2], Fault> {
+        let start = self.point2()?;
+        let end = self.point2()?;
+        Ok([start, end])
     }
 
     // None where the line is at its end.

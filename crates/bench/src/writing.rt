@@ -16,7 +16,7 @@ ghost use Rattle.std.specs.Vec.{made};
 ghost use Rattle.std.specs.Written.{decimal};
 ghost use Rattle.query.specs.Lines.{digit, hex};
 ghost use Rattle.bench.specs.Faults.{worded};
-ghost use Rattle.bench.specs.Texts.{Wrote, newline, number-text, vector-text, vectors-text, ids-text, row-text, clip-text, clips-text, root-text, written};
+ghost use Rattle.bench.specs.Texts.{Wrote, newline, number-text, vector-text, vectors-text, ids-text, row-text, clip-text, clips-text, meeting-text, root-text, written};
 
 pub fn write_answer(out: &mut String, answer: Answer) -> Result<(), AllocError>
     ensures { λ r. ⌜ made r (λ _. Wrote (string-bytes (now (out .entry))) (written answer) (string-bytes (now (out .exit)))) ⌝ }
@@ -29,6 +29,7 @@ pub fn write_answer(out: &mut String, answer: Answer) -> Result<(), AllocError>
         Answer::Feature(row) => write_row(out, row),
         Answer::Packed(id) => write_id(out, id),
         Answer::Clipped(points) => write_clips(out, points),
+        Answer::Meeting(places) => write_meeting(out, places),
         Answer::Root(v) => write_root(out, v),
     }
 }
@@ -110,6 +111,21 @@ fn write_clip(out: &mut String, points: ClippingPoints) -> Result<(), AllocError
     write_decimal(out, points.3 as u64)?;
     put(out, "\n")?;
     Ok(())
+}
+
+fn write_meeting(out: &mut String, places: Option<(f64, f64)>) -> Result<(), AllocError>
+    ensures { λ r. ⌜ made r (λ _. Wrote (string-bytes (now (out .entry))) (meeting-text places) (string-bytes (now (out .exit)))) ⌝ }
+{
+    match places {
+        None => put(out, "none\n"),
+        Some(both) => {
+            write_number(out, both.0)?;
+            put(out, " ")?;
+            write_number(out, both.1)?;
+            put(out, "\n")?;
+            Ok(())
+        }
+    }
 }
 
 // Text as it stands.

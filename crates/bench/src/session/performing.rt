@@ -9,11 +9,17 @@ use crate::fault::Fault;
 use crate::reading;
 use crate::session::Session;
 use crate::session::Solid;
+use math::pose::Pose;
 use math::refusal::Refusal;
+use math::root;
 use math::vector::Vector;
+use math::vector2::Vector2;
 use query::clip_segment_segment;
+use query::closest_points_line2d;
+use shape::cuboid::Cuboid;
 use shape::cylinder::Cylinder;
 use shape::feature_id::PackedFeatureId;
+use shape::polygonal_feature_map::CuboidFeatures;
 use shape::polygonal_feature_map::CylinderFeatures;
 use shape::polygonal_feature_map::PolygonalFeatureMap;
 use shape::polygonal_feature3d::PolygonalFeature;
@@ -21,9 +27,11 @@ ghost use mathlib.Core.Path.{_≡_};
 ghost use Rattle.std.specs.declared.option.Option.the-variants.{Some};
 ghost use Rattle.math.specs.Refusals.{told, told-as};
 ghost use Rattle.shape.specs.Features.{fields, making, made};
+ghost use Rattle.shape.specs.Moves.{moving, moved-or-kept};
 ghost use Rattle.shape.specs.Ids.{packing};
 ghost use Rattle.query.specs.Clips.{clipping};
-ghost use Rattle.bench.specs.declared.answer.Answer.the-variants.{Nothing, Done, Packed, Clipped};
+ghost use Rattle.query.specs.Meeting.{meeting-answer};
+ghost use Rattle.bench.specs.declared.answer.Answer.the-variants.{Nothing, Done, Packed, Clipped, Meeting};
 ghost use Rattle.bench.specs.Sessions.{form, state, start, shape-at, feature-at, with-shape, with-feature, replied, if-done, forming, support-answer, support-left, row-fields, fields-row, header, answered, performed, Ran};
 ghost use mathlib.Core.Bool.{true};
 ghost use Rattle.bench.specs.Lines.{silent};
@@ -59,10 +67,12 @@ impl Session {
             Command::Shape(which, sizes) => self.set_shape(which, sizes),
             Command::Support(which, dir, hint) => self.support(which, dir, hint),
             Command::Make(which, row) => self.make(which, row),
+            Command::Transform(which, pose) => self.transform(which, pose),
             Command::Show(which) => Answer::Feature(row_of(self.feature(which))),
             Command::Pack(kind, code) => pack(kind, code),
             Command::Clip(first, second) => clip(first, second),
-            Command::Sqrt(v) => Answer::Root(v.sqrt()),
+            Command::Lines(first, second) => lines(first, second),
+            Command::Sqrt(v) => Answer::Root(root::sqrt(v)),
         }
     }
 
@@ -125,6 +135,16 @@ impl Session {
         answer
     }
 
+    fn transform(&mut self, which: Which, pose: Pose) -> Answer
+        ensures answer { λ r. ⌜ r ≡ replied (λ _. Done) (moving pose (feature-at which (state (now (self .entry))))) ⌝ }
+        ensures after { λ _. ⌜ state (now (self .exit)) ≡ with-feature which (moved-or-kept pose (feature-at which (state (now (self .entry))))) (state (now (self .entry))) ⌝ }
+    {
+        let mut feature = self.feature(which);
+        let result = feature.transform_by(&pose);
+        self.put_feature(which, feature);
+        done(result)
+    }
+
     fn make(&mut self, which: Which, row: Row) -> Answer
         ensures answer { λ r. ⌜ r ≡ replied (λ _. Done) (making (row-fields row)) ⌝ }
         ensures after { λ _. ⌜ state (now (self .exit)) ≡ with-feature which (made (row-fields row) (feature-at which (state (now (self .entry))))) (state (now (self .entry))) ⌝ }
@@ -143,12 +163,25 @@ impl Session {
     }
 }
 
+fn lines(first: [Vector2; 2], second: [Vector2; 2]) -> Answer
+    ensures { λ r. ⌜ r ≡ replied Meeting (meeting-answer first second) ⌝ }
+{
+    match closest_points_line2d::closest_points_line2d(first, second) {
+        Ok(places) => Answer::Meeting(places),
+        Err(refusal) => Answer::TurnedDown(refusal.number()),
+    }
+}
+
 fn make_shape(sizes: Form) -> Result<Solid, Refusal>
     ensures { λ r. ⌜ told-as form r ≡ forming sizes ⌝ }
 {
     match sizes {
         Form::Cylinder(half_height, radius) => match Cylinder::new(half_height, radius) {
             Ok(cylinder) => Ok(Solid::Cylinder(cylinder)),
+            Err(refusal) => Err(refusal),
+        },
+        Form::Cuboid(half_extents) => match Cuboid::new(half_extents) {
+            Ok(cuboid) => Ok(Solid::Cuboid(cuboid)),
             Err(refusal) => Err(refusal),
         },
     }
@@ -166,6 +199,7 @@ fn support_feature(
     match shape {
         Solid::Absent => Answer::Unreadable(Fault::NoShape),
         Solid::Cylinder(cylinder) => done(cylinder.local_support_feature(dir, hint, out)),
+        Solid::Cuboid(cuboid) => done(cuboid.local_support_feature(dir, hint, out)),
     }
 }
 
