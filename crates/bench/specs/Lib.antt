@@ -1,0 +1,5 @@
+pub mod Faults
+pub mod Lines
+pub mod Sessions
+pub mod Texts
+pub mod Numerals
