@@ -1,12 +1,14 @@
 -- The face of a cuboid: its axis is one of three, its side one of two, its corners lie near.
-use mathlib.Core.Path.{_≡_, refl, _∙_, subst}
+use mathlib.Core.Path.{_≡_, refl, ap, _∙_, subst}
 use mathlib.Core.Logic.{_⊎_, inl, inr}
 use mathlib.Core.Bool.{Bool, true, false, not, cond, _&&_}
 use mathlib.Core.List.{List}
 use Prim.Native.Nat.{ℕ, zero, suc, _+_, _*_, _<_}
 use native.Mathlib.Omega.{arith}
 use lib.Dec.{eqb}
-use lib.Ieee.{Float, nan, inf, fin, ofBits, isNan, lt, le, neg, mul, round}
+use lib.IntN.{ℤ}
+use lib.ListN.{getD}
+use lib.Ieee.{Float, binary64, nan, inf, fin, ofBits, isNan, lt, le, neg, mul, round}
 use Rattle.std.specs.Floats.{withSign, negative}
 use Rattle.std.proofs.shelf.Tests.{and-parts, and-from, cond-both}
 use Rattle.math.specs.Basis.{signed}
@@ -17,10 +19,13 @@ use Rattle.math.specs.Magnitude.{bound, within, vector-within}
 use Rattle.math.specs.Vectors.{sizes, vector-number, largest-place, coordinate, First-largest}
 use Rattle.math.specs.declared.vector.Vector.{Vector}
 use Rattle.math.proofs.Largest as Largest
+use Rattle.math.proofs.Signs.{sign-product}
 use Rattle.math.proofs.Magnitude.{no, mul-within, neg-within}
 use Rattle.math.proofs.UnitMagnitude.{limit-bound}
 use Rattle.math.proofs.VectorMagnitude.{coordinates}
-use Rattle.shape.specs.Cuboids.{main-axis, side-of, face-vertices, face-corners, corner-at, cuboid-fields, Plus-or-minus, Face-corner, Around-face}
+use Rattle.shape.specs.Cuboids.{main-axis, side-of, face-vertices, face-corners, corner-at, vertex-codes, joining, edge-codes, four-codes, cuboid-fields, Plus-or-minus, Face-corner, Around-face, next, Neighbours, Supporting}
+use Rattle.shape.specs.Features.{unknown}
+use Rattle.shape.specs.Ids.{packed, vertexHeader, edgeHeader, faceHeader}
 use Rattle.shape.specs.Nearness.{vertex-limit, vertex-at, all-within, near-all}
 use Rattle.shape.specs.Sizes.{is-size, are-sizes}
 use Rattle.shape.proofs.Near.{given-near, size-given, point}
@@ -241,3 +246,84 @@ first-largest v n =
     cond-both (lt (v .x) (v .y)) _ _ (First-largest v)
     (λ h. cond-both (lt (v .y) (v .z)) 2 1 (First-largest v) (λ k. Largest.at-z-by-y v h k) (λ k. Largest.at-y v h k))
     (λ h. cond-both (lt (v .x) (v .z)) 2 0 (First-largest v) (λ k. Largest.at-z-by-x v n h k) (λ k. Largest.at-x v h k))
+
+-- ---- sign and numbers
+
+one-sign : (b : Bool) (m : ℕ) (e : ℤ) → negative (fin false m e ⊗ withSign b one) ≡ b
+unfolding ofBits withSign
+one-sign true m e = sign-product binary64 false true m _ e _
+one-sign false m e = sign-product binary64 false false m _ e _
+
+above-zero : (h : Float) → is-size h ≡ true → lt F.zero h ≡ true
+unfolding is-size
+above-zero h H = and-parts _ _ H .1
+
+finite-sign : (h d : Float) → within limit h ≡ true → lt F.zero h ≡ true → negative (h ⊗ signed d one) ≡ negative d
+unfolding ofBits lt within le withSign
+finite-sign nan d w l = no l
+finite-sign (inf true) d w l = no l
+finite-sign (inf false) d w l = no w
+finite-sign (fin true m e) d w l = no l
+finite-sign (fin false m e) d w l = one-sign (negative d) m e
+
+-- a half extent times the sign has that sign
+across-sign : (h d : Float) → is-size h ≡ true → negative (h ⊗ signed d one) ≡ negative d
+across-sign h d H = finite-sign h d (size-given h H) (above-zero h H)
+
+face-sign : (he : Vector) (d : Float) (axis : ℕ) → are-sizes he ≡ true → axis < 3 → negative (coordinate he axis ⊗ signed d one) ≡ negative d
+unfolding are-sizes
+face-sign he d zero H a = across-sign (he .x) d (and-parts _ _ (and-parts _ _ H .0) .0)
+face-sign he d (suc zero) H a = across-sign (he .y) d (and-parts _ _ (and-parts _ _ H .0) .1)
+face-sign he d (suc (suc axis)) H a = across-sign (he .z) d (and-parts _ _ H .1)
+
+neighbours : (axis side : ℕ) → axis < 3 → (i : ℕ) → i < 4 → Neighbours axis (corner-at axis side i) (corner-at axis side (next i))
+unfolding face-corners
+neighbours zero s a zero l = record { k = 1; other = λ e. omega arith; apart = inl (omega arith) }
+neighbours zero s a (suc zero) l = record { k = 2; other = λ e. omega arith; apart = inl (omega arith) }
+neighbours zero s a (suc (suc zero)) l = record { k = 1; other = λ e. omega arith; apart = inr (omega arith) }
+neighbours zero s a (suc (suc (suc zero))) l = record { k = 2; other = λ e. omega arith; apart = inr (omega arith) }
+neighbours zero s a (suc (suc (suc (suc i)))) l = absurd (past-four i l)
+neighbours (suc zero) s a zero l = record { k = 0; other = λ e. omega arith; apart = inl (omega arith) }
+neighbours (suc zero) s a (suc zero) l = record { k = 2; other = λ e. omega arith; apart = inl (omega arith) }
+neighbours (suc zero) s a (suc (suc zero)) l = record { k = 0; other = λ e. omega arith; apart = inr (omega arith) }
+neighbours (suc zero) s a (suc (suc (suc zero))) l = record { k = 2; other = λ e. omega arith; apart = inr (omega arith) }
+neighbours (suc zero) s a (suc (suc (suc (suc i)))) l = absurd (past-four i l)
+neighbours (suc (suc zero)) s a zero l = record { k = 1; other = λ e. omega arith; apart = inl (omega arith) }
+neighbours (suc (suc zero)) s a (suc zero) l = record { k = 0; other = λ e. omega arith; apart = inl (omega arith) }
+neighbours (suc (suc zero)) s a (suc (suc zero)) l = record { k = 1; other = λ e. omega arith; apart = inr (omega arith) }
+neighbours (suc (suc zero)) s a (suc (suc (suc zero))) l = record { k = 0; other = λ e. omega arith; apart = inr (omega arith) }
+neighbours (suc (suc zero)) s a (suc (suc (suc (suc i)))) l = absurd (past-four i l)
+neighbours (suc (suc (suc axis))) s a i l = absurd (past axis a)
+
+vertex-numbers : (axis side i : ℕ) → i < 4 → getD (four-codes vertexHeader (vertex-codes axis side)) i unknown ≡ packed vertexHeader (2 * corner-at axis side i)
+unfolding vertex-codes
+vertex-numbers axis side zero l = refl
+vertex-numbers axis side (suc zero) l = refl
+vertex-numbers axis side (suc (suc zero)) l = refl
+vertex-numbers axis side (suc (suc (suc zero))) l = refl
+vertex-numbers axis side (suc (suc (suc (suc i)))) l = absurd (past-four i l)
+
+edge-numbers : (axis side i : ℕ) → i < 4 → getD (four-codes edgeHeader (edge-codes axis side)) i unknown ≡ packed edgeHeader (joining (corner-at axis side i) (corner-at axis side (next i)))
+unfolding edge-codes
+edge-numbers axis side zero l = refl
+edge-numbers axis side (suc zero) l = refl
+edge-numbers axis side (suc (suc zero)) l = refl
+edge-numbers axis side (suc (suc (suc zero))) l = refl
+edge-numbers axis side (suc (suc (suc (suc i)))) l = absurd (past-four i l)
+
+face-number : (axis side : ℕ) → axis + side * 3 + 10 ≡ 10 + axis + 3 * side
+face-number axis side = omega arith
+
+pub supports : (he dir : Vector) → are-sizes he ≡ true → Supporting dir (cuboid-fields he dir)
+unfolding cuboid-fields
+supports he dir H =
+    let axis = main-axis dir in
+    let d = coordinate dir axis in
+    let a = axis-below dir in
+    record {
+      signs = λ i l. ap negative (face-corner he H (signed d one) (side-of d) axis a i l .across) ∙ face-sign he d axis H a;
+      vertex = vertex-numbers axis (side-of d);
+      edge = edge-numbers axis (side-of d);
+      neighbours = neighbours axis (side-of d) a;
+      face = ap (packed faceHeader) (face-number axis (side-of d));
+    }

@@ -15,7 +15,7 @@ use Rattle.math.specs.Limits.{vector-given}
 use Rattle.math.specs.Refusals.{Answer, done, refused}
 use Rattle.math.specs.Vectors.{sizes, largest-place, coordinate}
 use Rattle.math.specs.declared.vector.Vector.{Vector}
-use Rattle.shape.specs.Features.{Fields}
+use Rattle.shape.specs.Features.{Fields, unknown}
 use Rattle.shape.specs.Ids.{packed, four-ids, vertexHeader, edgeHeader, faceHeader}
 use Rattle.shape.specs.Nearness.{vertex-at}
 use Rattle.shape.specs.Supports.{Meaning}
@@ -128,3 +128,31 @@ Around-face he dir vs =
     let axis = main-axis dir in
     let d = coordinate dir axis in
     (i : ℕ) → i < 4 → Face-corner he axis (signed d one) (side-of d) (vertex-at vs i) (corner-at axis (side-of d) i)
+
+-- the bit of an axis in a corner's number
+abbrev pub axis-bit : ℕ → ℕ
+axis-bit k = by-axis k 4 2 1
+
+-- the corner after this one, around the face
+abbrev pub next : ℕ → ℕ
+next i = cond (eqb i 3) 0 (i + 1)
+
+-- two corners that differ along one axis, and that not the face's own
+pub record Neighbours (axis a b : ℕ) : Type 0 where
+  pub k : ℕ
+  pub other : k ≡ axis → ⊥
+  pub apart : (b ≡ a + axis-bit k) ⊎ (a ≡ b + axis-bit k)
+
+-- The face that supports a direction: along the main axis every vertex has the direction's sign, -0 counting as negative;
+-- each vertex has the code of its corner; each edge joins a corner to the next, which is its neighbour; axis and side number the face.
+pub record Supports (dir : Vector) (axis side : ℕ) (f : Fields) : Type 0 where
+  pub signs : (i : ℕ) → i < 4 → negative (coordinate (vertex-at (f .vertices) i) axis) ≡ negative (coordinate dir axis)
+  pub vertex : (i : ℕ) → i < 4 → getD (f .vids) i unknown ≡ packed vertexHeader (2 * corner-at axis side i)
+  pub edge : (i : ℕ) → i < 4 → getD (f .eids) i unknown ≡ packed edgeHeader (joining (corner-at axis side i) (corner-at axis side (next i)))
+  pub neighbours : (i : ℕ) → i < 4 → Neighbours axis (corner-at axis side i) (corner-at axis side (next i))
+  pub face : f .fid ≡ packed faceHeader (10 + axis + 3 * side)
+
+abbrev pub Supporting : Vector → Fields → Type 0
+Supporting dir f =
+    let axis = main-axis dir in
+    Supports dir axis (side-of (coordinate dir axis)) f

@@ -5,10 +5,10 @@ use borrow.Author.Needs.{needs}
 use Rattle.std.specs.declared.option.Option.the-variants.{None}
 use Rattle.math.specs.Refusals.{done}
 use Rattle.math.specs.Vectors.{sizes}
-use Rattle.shape.specs.Cuboids.{cuboid-fields, Around-face}
+use Rattle.shape.specs.Cuboids.{cuboid-fields, Around-face, Supporting}
 use Rattle.shape.specs.Features.{Fields, fields}
 use Rattle.shape.specs.Supports.{direction-given, supporting}
-use Rattle.shape.proofs.Cuboids.{around, first-largest, sizes-number}
+use Rattle.shape.proofs.Cuboids.{around, supports, first-largest, sizes-number}
 use Rattle.shape.proofs.cuboid.Cuboid.support_face.Needs as need
 
 pub returns : need.returns
@@ -24,4 +24,5 @@ returns c =
       after = after;
       axis = λ g. first-largest (sizes dir) (sizes-number dir given);
       corners = λ g. subst (λ (f : Fields). Around-face (k .«half_extents») dir (f .vertices)) {x = cuboid-fields (k .«half_extents») dir} (sym written) (around (k .«half_extents») dir (k .sized));
+      numbers = λ g. subst (Supporting dir) {x = cuboid-fields (k .«half_extents») dir} (sym written) (supports (k .«half_extents») dir (k .sized));
     }
