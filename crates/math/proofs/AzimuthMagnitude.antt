@@ -11,7 +11,8 @@ use lib.Ieee.Exact.{HasValue, round_exact}
 use lib.Ieee.Fits.{down_pos, up_pos, mul-fits, add-fits}
 use lib.Ieee.Positive.{num, den, den_pos}
 use lib.Ieee.Scale.{round_same}
-use Rattle.std.specs.Float.{sqrt, twice-sqrt-sticky, float_is_finite}
+use Rattle.std.specs.Float.{float_is_finite}
+use lib.Ieee.{root_twice}
 use Rattle.std.proofs.lemmas.Bool.{cases_lt, and_from}
 use Rattle.math.specs.Floats.{◌⊕◌, ◌⊗◌, ◌⊘◌, root, one, two}
 use Rattle.math.specs.Limits.{limit}
@@ -21,7 +22,7 @@ use Rattle.math.specs.declared.vector2.Vector2.{Vector2}
 use Rattle.math.proofs.Magnitude.{bound_is, no, Small, Large, small_of_within, within_more, within_round, add_within, within_self, small_mul, small_div, small_more}
 use Rattle.math.proofs.OwnValue.{held, exponent_le}
 use Rattle.math.proofs.Parts.{value_small, round_cases, square_bound, sum_left, sum_right, sum_bound}
-use Rattle.math.proofs.WholeRoot.{twice_reaches}
+use Rattle.math.proofs.WholeRoot.{twice_reaches, root_zero, of_root}
 use Rattle.math.proofs.UnitMagnitude.{limit_bound, square, square_is_bound, two_squares, squared_within, squared_bound}
 
 -- ---- powers of two are values of the format: 2^t / 2^u for u up to 1074, where it is at most 2^1000
@@ -74,11 +75,11 @@ module _ (t u : ℕ) (few : u ≤ 537) (m : ℕ) (e : ℤ) (h : 2 ^ t * 2 ^ t * 
       (le_trans (mul-le-mul_right (2 ^ 4542) h) (le_of_eq (mul_right_comm (m * up e) (2 ^ u * 2 ^ u) (2 ^ 4542)))))))
       (mul-pos (pow_pos u) (pow_pos u)))
 
-  pub root_at_least : within (round binary64 false (twice-sqrt-sticky (m * up e * 2 ^ 4542 / down e)) (2 ^ 2272)) (round binary64 false (2 ^ t) (2 ^ u)) ≡ true
+  pub root_at_least : within (round binary64 false (root_twice (m * up e * 2 ^ 4542 / down e)) (2 ^ 2272)) (round binary64 false (2 ^ t) (2 ^ u)) ≡ true
   root_at_least =
       let twice = twice_reaches whole (m * up e * 2 ^ 4542 / down e) fits_in in
       let doubled : 2 * whole * 2 ^ u ≡ 2 ^ t * 2 ^ 2272 = mul_assoc 2 whole (2 ^ u) ∙ ap (λ (x : ℕ). 2 * x) whole_is ∙ mul_left_comm 2 (2 ^ t) (2 ^ 2271) in
-      within_round binary64 false (2 ^ t) (2 ^ u) (twice-sqrt-sticky (m * up e * 2 ^ 4542 / down e)) (2 ^ 2272) (pow_pos u) (pow_pos 2272)
+      within_round binary64 false (2 ^ t) (2 ^ u) (root_twice (m * up e * 2 ^ 4542 / down e)) (2 ^ 2272) (pow_pos u) (pow_pos 2272)
       (le_trans (le_of_eq (sym doubled)) (mul-le-mul_right (2 ^ u) twice))
 
 -- ---- the reciprocal
@@ -269,25 +270,24 @@ module _ (s : Bool) (n : ℕ) (d : ℤ) (m : ℕ) (e : ℤ) (F : T (fits binary6
       value_small r p q (suc m * up e) (down e) value (small_of_within S r refl inside)
 
   reduced : within limit (fin s n d) ≡ true → usable (one ⊘ root S) ≡ true → within two (fin s n d ⊗ (one ⊘ root S)) ≡ true
-  unfolding sqrt
   reduced g h =
       let c = choice n d in
       let t = c.t in
       let u = c.u in
       let T' : t ≤ 20 + u = exponent_bound t u n d c.few (limit_small s n d g) c.under in
       let U : u ≤ 537 = c.few in
-      let N = twice-sqrt-sticky (suc m * up e * 2 ^ 4542 / down e) in
-      let at_least_lem = root_at_least t u U (suc m) e (square_under t u U T' c.under) in
-      let fit = fit_of_usable (root S) (round_cases N (2 ^ 2272)) h in
+      let N = root_twice (suc m * up e * 2 ^ 4542 / down e) in
+      let at_least_lem = of_root (λ r. within r (round binary64 false (2 ^ t) (2 ^ u)) ≡ true) m e (root_at_least t u U (suc m) e (square_under t u U T' c.under)) in
+      let fit = fit_of_usable (root S) (of_root (λ r. (bound r ≡ true) ⊎ (r ≡ inf false)) m e (round_cases N (2 ^ 2272))) h in
       scaled_down t u (omega arith) (omega arith) (fin s n d) (root S) c.over (large_of_fit (root S) (2 ^ t) (2 ^ u) fit (power_value t u (omega arith) (omega arith)) at_least_lem)
 
 -- A coordinate whose square is no larger than the squared length S, divided by the root of S.
 pub normalized_coordinate : (S z : Float) → bound S ≡ true → T (fits binary64 S) → within limit z ≡ true → within S (z ⊗ z) ≡ true → usable (one ⊘ root S) ≡ true → within two (z ⊗ (one ⊘ root S)) ≡ true
-unfolding sqrt Fit
+unfolding Fit
 normalized_coordinate nan z B F g Q h = no B
 normalized_coordinate (inf s) z B F g Q h = no B
 normalized_coordinate (fin true m e) z B F g Q h = no B
-normalized_coordinate (fin false zero e) z B F g Q h = absurd (lt_irrefl 0 (fit_of_usable (fin false 0 e) (inl refl) h))
+normalized_coordinate (fin false zero e) z B F g Q h = absurd (lt_irrefl 0 (fit_of_usable (fin false 0 (pos 0)) (inl refl) (subst (λ (r : Float). usable (one ⊘ r) ≡ true) (root_zero false e) h)))
 normalized_coordinate (fin false (suc m) e) nan B F g Q h = absurd (small_of_within limit nan limit_bound g)
 normalized_coordinate (fin false (suc m) e) (inf s) B F g Q h = absurd (small_of_within limit (inf s) limit_bound g)
 normalized_coordinate (fin false (suc m) e) (fin s n d) B F g Q h = reduced s n d m e F Q g h

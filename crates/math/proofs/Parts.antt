@@ -9,7 +9,7 @@ use lib.Ieee.Fits.{down_pos, round_is}
 use lib.Ieee.Positive.{num, den, through}
 use Rattle.std.specs.Float.{float_with_sign}
 use Rattle.std.proofs.lemmas.Bool.{cases_Bool, cases_lt}
-use Rattle.math.specs.Floats.{◌⊕◌, ◌⊗◌, size}
+use Rattle.math.specs.Floats.{◌⊕◌, ◌⊗◌}
 use Rattle.math.specs.Magnitude.{bound, within}
 use Rattle.math.proofs.Magnitude.{bound_is, no, Small, small_of_within, within_of_small, within_more, within_round}
 use Rattle.math.proofs.OwnValue.{own_value}

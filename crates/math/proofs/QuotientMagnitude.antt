@@ -1,16 +1,17 @@
 -- The laws of magnitude for quotients and roots.
-use Rattle.std.proofs.Common.{◌≡◌, ℕ, zero, suc, ◌+◌, ◌*◌, ◌/◌, ◌^◌, ◌<◌, ◌≤◌, Bool, true, false, cond, T, eqb, ◌⊎◌, ℤ, sym, refl, ap, ◌∙◌, subst, inl, inr, zero-le, le_trans, le_of_eq, lt_of_lt_of_le, lt_irrefl, mul-le-mul_right, le_antisymm, mul-pos, zero-mul, mul_right_comm, arith, eqb→eq, pow_pos}
+use Rattle.std.proofs.Common.{◌≡◌, ℕ, zero, suc, ◌+◌, ◌*◌, ◌/◌, ◌^◌, ◌<◌, ◌≤◌, Bool, true, false, cond, T, eqb, ◌⊎◌, ℤ, pos, sym, refl, ap, ◌∙◌, subst, inl, inr, zero-le, le_trans, le_of_eq, lt_of_lt_of_le, lt_irrefl, mul-le-mul_right, le_antisymm, mul-pos, zero-mul, mul_right_comm, arith, eqb→eq, pow_pos}
 use lib.Ieee.{Float, nan, inf, fin, binary64, up, down, round, div, le, lt}
 use lib.Ieee.Fits.{down_pos}
 use lib.Ieee.Nearest.{div_mono}
 use lib.Ieee.Positive.{num, den}
-use Rattle.std.specs.Float.{float_with_sign, sqrt, twice-sqrt-sticky}
+use Rattle.std.specs.Float.{float_with_sign}
+use lib.Ieee.{root_twice}
 use Rattle.std.proofs.lemmas.Bool.{cases_lt, cases_Bool, cond-true, cond-false, ne_eqb, eqb-false}
 use Rattle.math.specs.Floats.{◌⊘◌, size, root}
 use Rattle.math.specs.Magnitude.{bound, within}
 use Rattle.math.proofs.Magnitude.{bound_is, no, Large, small_of_within, within_of_small, within_round, small_div}
 use Rattle.math.proofs.Parts.{round_cases}
-use Rattle.math.proofs.WholeRoot.{whole_root, whole_root_is, root_reaches}
+use Rattle.math.proofs.WholeRoot.{whole_root, whole_root_is, root_reaches, root_zero, of_root}
 
 -- ---- a quotient, by a divisor of at least l in size
 
@@ -43,8 +44,8 @@ div_within b l x y B L P Y h k =
 
 -- ---- a root: a larger number has a root that is no smaller
 
-twice_mono : (m n : ℕ) → m ≤ n → twice-sqrt-sticky m ≤ twice-sqrt-sticky n
-unfolding twice-sqrt-sticky whole_root
+twice_mono : (m n : ℕ) → m ≤ n → root_twice m ≤ root_twice n
+unfolding root_twice whole_root
 twice_mono m n h =
     let r = whole_root_is m in
     let more : whole_root m ≤ whole_root n = root_reaches (whole_root m) n (le_trans r.0 h) in
@@ -86,14 +87,18 @@ zero_within r d =
 
 -- of two values that are not negative
 pub root_within : (b x : Float) → bound b ≡ true → bound x ≡ true → within b x ≡ true → 0 < num b → within (root b) (root x) ≡ true
-unfolding sqrt
 root_within b x B X h P = bound_is (λ b'. within b' x ≡ true → 0 < num b' → within (root b') (root x) ≡ true) (λ m e g. bound_is (λ x'. within (fin false m e) x' ≡ true → 0 < m * up e → within (root (fin false m e)) (root x') ≡ true) (written m e) x X g) b B h P
   where
     written : (m : ℕ) (e : ℤ) (n : ℕ) (d : ℤ) → within (fin false m e) (fin false n d) ≡ true → 0 < m * up e → within (root (fin false m e)) (root (fin false n d)) ≡ true
     written zero e n d g p = absurd (lt_irrefl 0 (subst (λ (x : ℕ). 0 < x) (zero-mul (up e)) p))
-    written (suc m) e zero d g p = zero_within (twice-sqrt-sticky (suc m * up e * 2 ^ 4542 / down e)) d
+    written (suc m) e zero d g p =
+        let N = root_twice (suc m * up e * 2 ^ 4542 / down e) in
+        of_root (λ r. within r (root (fin false zero d)) ≡ true) m e (subst (λ z. within (round binary64 false N (2 ^ 2272)) z ≡ true) (sym (root_zero false d)) (zero_within N (pos 0)))
     written (suc m) e (suc n) d g p =
         let k = small_of_within (fin false (suc m) e) (fin false (suc n) d) refl g in
         let scaled : suc n * up d * 2 ^ 4542 * down e ≤ suc m * up e * 2 ^ 4542 * down d = le_trans (le_of_eq (mul_right_comm (suc n * up d) (2 ^ 4542) (down e))) (le_trans (mul-le-mul_right (2 ^ 4542) k) (le_of_eq (mul_right_comm (suc m * up e) (down d) (2 ^ 4542)))) in
         let fewer = twice_mono (suc n * up d * 2 ^ 4542 / down d) (suc m * up e * 2 ^ 4542 / down e) (div_mono (suc n * up d * 2 ^ 4542) (down d) (suc m * up e * 2 ^ 4542) (down e) (down_pos d) (down_pos e) scaled) in
-        within_round binary64 false (twice-sqrt-sticky (suc n * up d * 2 ^ 4542 / down d)) (2 ^ 2272) (twice-sqrt-sticky (suc m * up e * 2 ^ 4542 / down e)) (2 ^ 2272) (pow_pos 2272) (pow_pos 2272) (mul-le-mul_right (2 ^ 2272) fewer)
+        let N = root_twice (suc m * up e * 2 ^ 4542 / down e) in
+        of_root (λ r. within r (root (fin false (suc n) d)) ≡ true) m e
+        (of_root (λ z. within (round binary64 false N (2 ^ 2272)) z ≡ true) n d
+        (within_round binary64 false (root_twice (suc n * up d * 2 ^ 4542 / down d)) (2 ^ 2272) N (2 ^ 2272) (pow_pos 2272) (pow_pos 2272) (mul-le-mul_right (2 ^ 2272) fewer)))

@@ -1,9 +1,9 @@
 -- A root by the rule is the nearest f64. In steps of 2^k the root lies between q and q + 1, and no f64 lies strictly between those two, since q has 53 digits.
-use Rattle.std.proofs.Common.{◌≡◌, ℕ, zero, suc, ◌+◌, ◌-◌, ◌*◌, ◌^◌, ◌<◌, ◌≤◌, true, false, T, leb, ℤ, pos, negsuc, sym, refl, ap, ◌∙◌, subst, inl, inr, true≢false, le_trans, le_of_eq, lt_of_lt_of_le, lt_of_le_of_lt, le_of_lt, lt_irrefl, mul-le-mul_right, mul_assoc, mul_comm, add-mul, mul-le-mul, lt_of_mul-lt-mul_right, mul-le-mul_left, mul-lt-mul_of_pos_right, mul-pos, mul-one, sub-add_cancel, mul_right_comm, mul_left_comm, arith, pow_pos, pow_mono, pow-add, shl_lt}
+use Rattle.std.proofs.Common.{◌≡◌, ℕ, zero, suc, ◌+◌, ◌-◌, ◌*◌, ◌^◌, ◌<◌, ◌≤◌, true, false, T, eqb, leb, ℤ, pos, negsuc, sym, refl, ap, ◌∙◌, subst, inl, inr, true≢false, le_trans, le_of_eq, lt_of_lt_of_le, lt_of_le_of_lt, le_of_lt, lt_irrefl, mul-le-mul_right, mul_assoc, mul_comm, add-mul, mul-le-mul, lt_of_mul-lt-mul_right, mul-le-mul_left, mul-lt-mul_of_pos_right, mul-pos, mul-one, sub-add_cancel, mul_right_comm, mul_left_comm, arith, eqb→eq, pow-suc, pow_pos, pow_mono, pow-add, shl_lt}
 use lib.Ieee.{Float, nan, inf, fin, binary64, up, down, fits}
 use lib.Ieee.Fits.{down_pos}
 use lib.Ieee.Positive.{num, den, den_pos}
-use Rattle.std.specs.Float.{sqrt}
+use lib.Ieee.{sqrt}
 use Rattle.std.proofs.lemmas.Bool.{cases_lt, cases_Bool, leb-true, leb-false, cond-true, cond-false}
 use Rattle.math.specs.Floats.{root}
 use Rattle.math.specs.Magnitude.{bound}
@@ -11,6 +11,7 @@ use Rattle.math.specs.Roots.{chosen, Rooted, Nearest, RootIs, middle, target}
 use Rattle.math.proofs.Magnitude.{no}
 use Rattle.math.proofs.OwnValue.{held}
 use Rattle.math.proofs.RootRule.{fourth, root_from, rooted}
+use Rattle.math.proofs.WholeRoot.{of_root}
 
 -- ---- the steps of the format: n × 2^a, with n of at most 53 digits, and a step of 2^b
 
@@ -182,7 +183,7 @@ nearest v (fin false k g) R = record { larger = up_side; smaller = down_side }
     root = R.root.1
 
     least : 2 ^ 52 ≤ R.q
-    least = root_from R.m R.q R.at_least_lem R.next_square
+    least = root_from R.m R.q R.at_least R.next_square
 
     up_side : (x : Float) → T (fits binary64 x) → bound x ≡ true → k * up g * den x < num x * down g → target v (fin false k g) x < middle (fin false k g) x * middle (fin false k g) x * den v
     up_side nan F N h = no N
@@ -202,12 +203,21 @@ nearest v (fin false k g) R = record { larger = up_side; smaller = down_side }
         (below_choice R.m R.q (I * down d) (n * up d * J) (mul-pos (pow_pos R.i) (down_pos d)) R.square R.next_square (value_gap n d R.q R.i R.j F least)
         (order_down (num v) (den v) (k * up g) (down g) (n * up d) (down d) R.m c I J (den_pos v) (down_pos g) value root (pow_pos R.j) h))
 
+above_zero : (n : ℕ) (e : ℤ) → T (fits binary64 (fin false (suc n) e)) → RootIs (fin false (suc n) e) (root (fin false (suc n) e))
+above_zero n e F = let R = of_root (Rooted (fin false (suc n) e)) n e (rooted n e F) in (R, nearest (fin false (suc n) e) (root (fin false (suc n) e)) R)
+
+-- a zero that a format holds has the exponent 0
+zero_written : (e : ℤ) → T (eqb (up e * down e) 1) → e ≡ pos 0
+zero_written (pos zero) F = refl
+zero_written (pos (suc k)) F = absurd (let h : 2 ^ suc k * 1 ≡ 1 = eqb→eq _ _ F in omega (arith, pow-suc 2 k, pow_pos k))
+zero_written (negsuc k) F = absurd (let h : 1 * 2 ^ suc k ≡ 1 = eqb→eq _ _ F in omega (arith, pow-suc 2 k, pow_pos k))
+
 pub root_is : (v : Float) → T (fits binary64 v) → RootIs v (root v)
-unfolding sqrt
+unfolding sqrt fits
 root_is nan F = refl
 root_is (inf false) F = refl
 root_is (inf true) F = refl
-root_is (fin false zero e) F = refl
-root_is (fin true zero e) F = refl
+root_is (fin false zero e) F = ap (fin false zero) (sym (zero_written e F))
+root_is (fin true zero e) F = ap (fin true zero) (sym (zero_written e F))
 root_is (fin true (suc n) e) F = refl
-root_is (fin false (suc n) e) F = let R = rooted n e F in (R, nearest (fin false (suc n) e) (root (fin false (suc n) e)) R)
+root_is (fin false (suc n) e) F = above_zero n e F

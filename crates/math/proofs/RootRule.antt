@@ -10,9 +10,8 @@ use lib.Ieee.Digits.{size-lt, size-le, size_reaches, back}
 use lib.Ieee.Exact.{HasValue, units_val}
 use lib.Ieee.Fits.{round_is}
 use lib.Ieee.Nearest.{closest, closest_same}
-use Rattle.std.specs.Float.{twice-sqrt-sticky}
+use lib.Ieee.{root_twice}
 use Rattle.std.proofs.lemmas.Bool.{cases_lt, le-leb, lt-leb, cond-true, cond-false, ne_eqb}
-use Rattle.math.specs.Floats.{root}
 use Rattle.math.specs.Roots.{chosen, Rooted}
 use Rattle.math.proofs.OwnValue.{held, exponent_le}
 use Rattle.math.proofs.WholeRoot.{WholeRoot, whole_root, whole_root_is, root_reaches, lt_of_squares}
@@ -79,7 +78,7 @@ module _ (m q h : ℕ) (H : 0 < h) (square : q * q ≤ m) (next : m < (q + 1) * 
   r₀ = whole_root N₀
 
   abbrev R₀ : ℕ
-  R₀ = twice-sqrt-sticky N₀
+  R₀ = root_twice N₀
 
   facts : WholeRoot r₀ N₀
   facts = whole_root_is N₀
@@ -93,11 +92,11 @@ module _ (m q h : ℕ) (H : 0 < h) (square : q * q ≤ m) (next : m < (q + 1) * 
       (lt_of_le_of_lt facts.0 (lt_of_lt_of_le (mul-lt-mul_of_pos_right next (mul-pos (mul-pos (lit< tt) H) (mul-pos (lit< tt) H))) (le_of_eq (mul-mul-mul_comm (q + 1) (q + 1) T₀ T₀))))
 
   twice_from : 2 * r₀ ≤ R₀
-  unfolding twice-sqrt-sticky whole_root
+  unfolding root_twice whole_root
   twice_from = omega arith
 
   twice_to : R₀ ≤ 2 * r₀ + 1
-  unfolding twice-sqrt-sticky whole_root
+  unfolding root_twice whole_root
   twice_to = bit (eqb (r₀ * r₀) N₀)
     where
       bit : (b : Bool) → 2 * r₀ + cond b 0 1 ≤ 2 * r₀ + 1
@@ -125,7 +124,7 @@ module _ (m q h : ℕ) (H : 0 < h) (square : q * q ≤ m) (next : m < (q + 1) * 
       omega arith
 
   above_middle : q < m - q * q → (2 * q + 1) * (2 * T₀) < R₀ * 2
-  unfolding twice-sqrt-sticky whole_root
+  unfolding root_twice whole_root
   above_middle l =
       let hh : 0 < h * h = mul-pos H H in
       let large : q * q + q + 1 ≤ m = omega arith in
@@ -184,7 +183,7 @@ module _ (m q t : ℕ) (from : 2 ^ 104 ≤ m) (to : m < 2 ^ 106) (square : q * q
   N₁ = m * (T₁ * T₁)
 
   abbrev R₁ : ℕ
-  R₁ = twice-sqrt-sticky N₁
+  R₁ = root_twice N₁
 
   K₁ : ℕ
   K₁ = t - 1196
@@ -303,7 +302,7 @@ module _ (n : ℕ) (e : ℤ) (F : T (fits binary64 (fin false (suc n) e))) where
   abbrev N : ℕ
   N = suc n * up e * 2 ^ 4542 / down e
 
-  pub rooted : Rooted (fin false (suc n) e) (round binary64 false (twice-sqrt-sticky N) (2 ^ 2272))
+  pub rooted : Rooted (fin false (suc n) e) (round binary64 false (root_twice N) (2 ^ 2272))
   rooted =
       let s = scaled n e F in
       let z = s.z in
@@ -341,7 +340,7 @@ module _ (n : ℕ) (e : ℤ) (F : T (fits binary64 (fin false (suc n) e))) where
         value = s.exact ∙ ap (λ (x : ℕ). x * down e) (sym whole ∙ ap (λ (x : ℕ). m * x) (sym (fourth t)));
         square = r.0;
         next_square = r.1;
-        root = subst (λ (x : ℕ). HasValue (round binary64 false (twice-sqrt-sticky x) (2 ^ 2272)) false (chosen m q * 2 ^ t) (2 ^ 2271)) units_equal (subst (λ (x : ℕ). HasValue (round binary64 false (twice-sqrt-sticky (m * (2 * 2 ^ (t - 1) * (2 * 2 ^ (t - 1))))) (2 ^ 2272)) false (chosen m q * 2 ^ x) (2 ^ 2271)) again v);
+        root = subst (λ (x : ℕ). HasValue (round binary64 false (root_twice x) (2 ^ 2272)) false (chosen m q * 2 ^ t) (2 ^ 2271)) units_equal (subst (λ (x : ℕ). HasValue (round binary64 false (root_twice (m * (2 * 2 ^ (t - 1) * (2 * 2 ^ (t - 1))))) (2 ^ 2272)) false (chosen m q * 2 ^ x) (2 ^ 2271)) again v);
       }
     where
       double : (t : ℕ) → t + t ≡ 2 * t

@@ -1,8 +1,9 @@
 -- The whole part of a square root, and how it bounds the root that `sqrt` rounds.
-use Rattle.std.proofs.Common.{◌≡◌, ℕ, zero, suc, ◌+◌, ◌*◌, ◌/◌, ◌^◌, ◌<◌, ◌≤◌, Bool, true, false, cond, leb, refl, lt_of_lt_of_le, lt_of_le_of_lt, mul-le-mul, pow-suc, lt_of_not-le, arith}
+use Rattle.std.proofs.Common.{◌≡◌, ℕ, ℤ, zero, suc, ◌+◌, ◌*◌, ◌/◌, ◌^◌, ◌<◌, ◌≤◌, Bool, true, false, cond, leb, pos, refl, sym, subst, lt_of_lt_of_le, lt_of_le_of_lt, mul-le-mul, pow-suc, lt_of_not-le, arith}
 use lib.Ieee.{size}
 use lib.Ieee.Digits.{size-lt}
-use Rattle.std.specs.Float.{isqrt-below, twice-sqrt-sticky}
+use lib.Ieee.{Float, binary64, fin, up, down, round, sqrt, root_below, root_twice}
+use Rattle.math.specs.Floats.{root}
 use Rattle.std.proofs.lemmas.Bool.{leb-true, leb-false}
 
 -- s is the whole part of the root of n
@@ -13,19 +14,19 @@ next_digit : (r n : ℕ) (b : Bool) → leb ((2 * r + 1) * (2 * r + 1)) n ≡ b 
 next_digit r n true e h = (leb-true _ _ e, omega (arith, h.1))
 next_digit r n false e h = (omega (arith, h.0), leb-false _ _ e)
 
-below_is : (k n : ℕ) → n < 4 ^ k → WholeRoot (isqrt-below k n) n
-unfolding isqrt-below
+below_is : (k n : ℕ) → n < 4 ^ k → WholeRoot (root_below k n) n
+unfolding root_below
 below_is zero n h = omega arith
 below_is (suc k) n h =
     let step : 4 ^ suc k ≡ 4 ^ k * 4 = pow-suc 4 k in
-    next_digit (isqrt-below k (n / 4)) n _ refl (below_is k (n / 4) (omega arith))
+    next_digit (root_below k (n / 4)) n _ refl (below_is k (n / 4) (omega arith))
 
 pow_grows : (k : ℕ) → 2 ^ k ≤ 4 ^ k
 pow_grows zero = omega arith
 pow_grows (suc k) = let a : 2 ^ suc k ≡ 2 ^ k * 2 = pow-suc 2 k in let b : 4 ^ suc k ≡ 4 ^ k * 4 = pow-suc 4 k in omega (arith, pow_grows k)
 
 unfoldable pub whole_root : ℕ → ℕ
-whole_root n = isqrt-below (size n) n
+whole_root n = root_below (size n) n
 
 pub whole_root_is : (n : ℕ) → WholeRoot (whole_root n) n
 unfolding whole_root
@@ -42,6 +43,20 @@ root_reaches k n h =
     omega arith
 
 -- twice the root, cut to a whole number where the root is whole and to an odd one elsewhere, is at least twice what squares to at most n
-pub twice_reaches : (k n : ℕ) → k * k ≤ n → 2 * k ≤ twice-sqrt-sticky n
-unfolding twice-sqrt-sticky whole_root
+pub twice_reaches : (k n : ℕ) → k * k ≤ n → 2 * k ≤ root_twice n
+unfolding root_twice whole_root
 twice_reaches k n h = omega (arith, root_reaches k n h)
+
+-- What `sqrt` rounds at a number above zero. Proofs cite this, since `sqrt` opened there would open `round` with it.
+pub root_rounded : (m : ℕ) (e : ℤ) → root (fin false (suc m) e) ≡ round binary64 false (root_twice (suc m * up e * 2 ^ 4542 / down e)) (2 ^ 2272)
+unfolding sqrt
+root_rounded m e = refl
+
+-- the root of a zero is a zero of its sign
+pub root_zero : (s : Bool) (e : ℤ) → root (fin s zero e) ≡ fin s zero (pos 0)
+unfolding sqrt
+root_zero s e = refl
+
+-- what holds of the number that is rounded holds of the root
+pub of_root : (P : Float → Type 0) (m : ℕ) (e : ℤ) → P (round binary64 false (root_twice (suc m * up e * 2 ^ 4542 / down e)) (2 ^ 2272)) → P (root (fin false (suc m) e))
+of_root P m e p = subst P (sym (root_rounded m e)) p

@@ -1,4 +1,6 @@
 // Vectors, rotations and poses in f64, each operation rounded once in the order written, and the tests behind the refusals of unfit numbers.
+#![tactic(auto)]
+
 pub mod approx;
 pub mod limits;
 pub mod magnitude_laws;

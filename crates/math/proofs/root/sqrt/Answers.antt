@@ -10,4 +10,4 @@ pub returns : goal.returns
 returns c =
     let v = c.args.v in
     let same = c.sqrt.ensures.value in
-    record { value = same; nearest = subst (λ (r : Float). RootIs v r) (sym same) (root_is v (to_T _ c.well-formed.0.1)) }
+    record { value = same; nearest = subst (λ (r : Float). RootIs v r) (sym same) (root_is v (to_T _ c.well_formed.0.1)) }

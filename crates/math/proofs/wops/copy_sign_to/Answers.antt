@@ -3,5 +3,5 @@ use Rattle.std.proofs.Common.{sym}
 use Rattle.math.proofs.Signs.{nan_positive}
 use Rattle.math.proofs.wops.copy_sign_to.Goals as goal
 
-pub returns-then-is-nan : goal.returns-then-is-nan
-returns-then-is-nan c = let e = nan_positive c.args.sign (sym c.if-is-nan.ensures.value) in cc
+pub returns-then-is_nan : goal.returns-then-is_nan
+returns-then-is_nan c = let e = nan_positive c.args.sign (sym c.if-is_nan.ensures.value) in cc
