@@ -15,7 +15,7 @@ use Rattle.math.proofs.TimesOne.{times_one, times_minus_one}
 use Rattle.math.proofs.Magnitude.{no, mul_within, neg_within}
 use Rattle.math.proofs.UnitMagnitude.{limit_bound}
 use Rattle.math.proofs.VectorMagnitude.{coordinates}
-use Rattle.shape.specs.Cuboids.{main_axis_of, side_of, face_vertices_of, face_corners, corner_at, vertex_codes_of, joining, edge_codes_of, four_codes, cuboid_fields, PlusOrMinus, on_side, Across, FaceCorner, AroundFace, next, Neighbours, Supporting}
+use Rattle.shape.specs.Cuboids.{main_axis_of, side_of, face_vertices_of, face_corners, corner_at, vertex_codes_of, joining, edge_codes_of, four_codes, cuboid_fields, PlusOrMinus, on_side, Across, FaceCorner, AroundFace, ExactCorner, ExactlyAround, next, Neighbours, Supporting}
 use Rattle.shape.specs.Features.{Fields, unknown}
 use Rattle.shape.specs.Ids.{packed, vertex_header, edge_header, face_header}
 use Rattle.shape.specs.Nearness.{vertex_limit, vertex_at, all_within, near_all}
@@ -206,7 +206,7 @@ module _ (he : Vector) (H : are_sizes he ≡ true) (sign : Float) (side : ℕ) w
   on_x : Bool → Bool → Vector
   on_x b c = record { x = he.x ⊗ sign; y = put b he.y; z = put c he.z }
 
-  at_x : Exact he.x → (b c : Bool) (n : ℕ) → n ≡ 4 * side + 2 * bit b + bit c → FaceCorner he 0 side (on_x b c) n
+  at_x : Exact he.x → (b c : Bool) (n : ℕ) → n ≡ 4 * side + 2 * bit b + bit c → ExactCorner he 0 side (on_x b c) n
   unfolding on_x
   at_x E b c n e =
       let p = put_sign b he.y (coordinate_size he 1 H) in
@@ -221,7 +221,7 @@ module _ (he : Vector) (H : are_sizes he ≡ true) (sign : Float) (side : ℕ) w
   on_y : Bool → Bool → Vector
   on_y b c = record { x = put b he.x; y = he.y ⊗ sign; z = put c he.z }
 
-  at_y : Exact he.y → (b c : Bool) (n : ℕ) → n ≡ 4 * bit b + 2 * side + bit c → FaceCorner he 1 side (on_y b c) n
+  at_y : Exact he.y → (b c : Bool) (n : ℕ) → n ≡ 4 * bit b + 2 * side + bit c → ExactCorner he 1 side (on_y b c) n
   unfolding on_y
   at_y E b c n e =
       let p = put_sign b he.x (coordinate_size he 0 H) in
@@ -236,7 +236,7 @@ module _ (he : Vector) (H : are_sizes he ≡ true) (sign : Float) (side : ℕ) w
   on_z : Bool → Bool → Vector
   on_z b c = record { x = put b he.x; y = put c he.y; z = he.z ⊗ sign }
 
-  at_z : Exact he.z → (b c : Bool) (n : ℕ) → n ≡ 4 * bit b + 2 * bit c + side → FaceCorner he 2 side (on_z b c) n
+  at_z : Exact he.z → (b c : Bool) (n : ℕ) → n ≡ 4 * bit b + 2 * bit c + side → ExactCorner he 2 side (on_z b c) n
   unfolding on_z
   at_z E b c n e =
       let p = put_sign b he.x (coordinate_size he 0 H) in
@@ -248,7 +248,7 @@ module _ (he : Vector) (H : are_sizes he ≡ true) (sign : Float) (side : ℕ) w
       each (suc zero) l = put_either c he.y
       each (suc (suc k)) l = exact_either he.z E
 
-  pub face_corner : (axis : ℕ) → axis < 3 → Across he axis side (face_vertices_of he axis sign) → (i : ℕ) → i < 4 → FaceCorner he axis side (vertex_at (face_vertices_of he axis sign) i) (corner_at axis side i)
+  pub face_corner : (axis : ℕ) → axis < 3 → Across he axis side (face_vertices_of he axis sign) → (i : ℕ) → i < 4 → ExactCorner he axis side (vertex_at (face_vertices_of he axis sign) i) (corner_at axis side i)
   unfolding face_vertices_of face_corners on_x on_y on_z
   face_corner zero a E zero l = at_x (E zero l) false false _ (omega arith)
   face_corner zero a E (suc zero) l = at_x (E (suc zero) l) true false _ (omega arith)
@@ -267,12 +267,33 @@ module _ (he : Vector) (H : are_sizes he ≡ true) (sign : Float) (side : ℕ) w
   face_corner (suc (suc zero)) a E (suc (suc (suc (suc i)))) l = absurd (past_four i l)
   face_corner (suc (suc (suc axis))) a E i l = absurd (past axis a)
 
-pub around : (he dir : Vector) (vs : List Vector) → are_sizes he ≡ true → vs ≡ (cuboid_fields he dir).vertices → Across he (main_axis_of dir) (side_of (coordinate dir (main_axis_of dir))) vs → AroundFace he dir vs
+pub around : (he dir : Vector) (vs : List Vector) → are_sizes he ≡ true → vs ≡ (cuboid_fields he dir).vertices → Across he (main_axis_of dir) (side_of (coordinate dir (main_axis_of dir))) vs → ExactlyAround he dir vs
 unfolding cuboid_fields
 around he dir vs H e E =
     let axis = main_axis_of dir in
     let d = coordinate dir axis in
-    subst (λ (us : List Vector). Across he axis (side_of d) us → AroundFace he dir us) {x = face_vertices_of he axis (signed d one)} (sym e) (face_corner he H (signed d one) (side_of d) axis (axis_below dir)) E
+    subst (λ (us : List Vector). Across he axis (side_of d) us → ExactlyAround he dir us) {x = face_vertices_of he axis (signed d one)} (sym e) (face_corner he H (signed d one) (side_of d) axis (axis_below dir)) E
+
+-- ---- the corner as the product computes it
+
+face_product : (he : Vector) (axis : ℕ) (sign : Float) → axis < 3 → (i : ℕ) → i < 4 → coordinate (vertex_at (face_vertices_of he axis sign) i) axis ≡ coordinate he axis ⊗ sign
+unfolding face_vertices_of
+face_product he zero sign l = of_four (λ (v : Vector). v.x ≡ he.x ⊗ sign) _ _ _ _ refl refl refl refl
+face_product he (suc zero) sign l = of_four (λ (v : Vector). v.y ≡ he.y ⊗ sign) _ _ _ _ refl refl refl refl
+face_product he (suc (suc zero)) sign l = of_four (λ (v : Vector). v.z ≡ he.z ⊗ sign) _ _ _ _ refl refl refl refl
+face_product he (suc (suc (suc axis))) sign l = absurd (past axis l)
+
+-- an exact corner is one, where its coordinate across the face is the product by the sign
+corner_of_exact : (he : Vector) (axis : ℕ) (sign : Float) (side : ℕ) (v : Vector) (n : ℕ) → ExactCorner he axis side v n → coordinate v axis ≡ coordinate he axis ⊗ sign → FaceCorner he axis sign side v n
+corner_of_exact he axis sign side v n exact product = record { across = product; along = λ k l other. exact.corner k l; bits = exact.bits }
+
+pub around_face : (he dir : Vector) (vs : List Vector) → vs ≡ (cuboid_fields he dir).vertices → ExactlyAround he dir vs → AroundFace he dir vs
+unfolding cuboid_fields
+around_face he dir vs e exact i l =
+    let axis = main_axis_of dir in
+    let d = coordinate dir axis in
+    let product = subst (λ (us : List Vector). coordinate (vertex_at us i) axis ≡ coordinate he axis ⊗ signed d one) {x = face_vertices_of he axis (signed d one)} (sym e) (face_product he axis (signed d one) (axis_below dir) i l) in
+    corner_of_exact he axis (signed d one) (side_of d) (vertex_at vs i) (corner_at axis (side_of d) i) (exact i l) product
 
 pub first_largest : (v : Vector) → vector_number v ≡ true → FirstLargest v (largest_place v)
 unfolding largest_place
@@ -329,11 +350,11 @@ edge_numbers axis side (suc (suc (suc (suc i)))) l = absurd (past_four i l)
 face_number : (axis side : ℕ) → axis + side * 3 + 10 ≡ 10 + axis + 3 * side
 face_number axis side = omega arith
 
-pub supports : (he dir : Vector) (f : Fields) → are_sizes he ≡ true → f ≡ cuboid_fields he dir → AroundFace he dir f.vertices → Supporting dir f
+pub supports : (he dir : Vector) (f : Fields) → are_sizes he ≡ true → f ≡ cuboid_fields he dir → ExactlyAround he dir f.vertices → Supporting dir f
 unfolding cuboid_fields
-supports he dir f H e = subst (λ (g : Fields). AroundFace he dir g.vertices → Supporting dir g) {x = cuboid_fields he dir} (sym e) written
+supports he dir f H e = subst (λ (g : Fields). ExactlyAround he dir g.vertices → Supporting dir g) {x = cuboid_fields he dir} (sym e) written
   where
-    written : AroundFace he dir (cuboid_fields he dir).vertices → Supporting dir (cuboid_fields he dir)
+    written : ExactlyAround he dir (cuboid_fields he dir).vertices → Supporting dir (cuboid_fields he dir)
     written corners =
         let axis = main_axis_of dir in
         let d = coordinate dir axis in

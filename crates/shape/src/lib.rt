@@ -1,4 +1,6 @@
 // The shapes that meet, and the one polygonal feature that each of them answers for a direction.
+#![tactic(auto)]
+
 pub mod cuboid;
 pub mod cylinder;
 pub mod feature_id;

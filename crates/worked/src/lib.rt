@@ -1,4 +1,5 @@
 // Worked values of the math and query layers, as a person would try them.
+#![tactic(auto)]
 #[cfg(test)]
 mod edges;
 #[cfg(test)]

@@ -6,16 +6,16 @@ use Rattle.shape.specs.Cylinders.{azimuth}
 use Rattle.shape.proofs.Azimuth.{azimuth_within}
 use Rattle.shape.proofs.polygonal_feature_map.feature_azimuth.Goals as goal
 
-pub returns-in-Some-try-normalize : goal.returns-in-Some-try-normalize
+pub returns-in-Some-try_normalize : goal.returns-in-Some-try_normalize
 unfolding azimuth
-returns-in-Some-try-normalize c =
-    let chosen : c.in-Some-try-normalize.az ≡ azimuth c.args.dir c.args.hint = search rules in
+returns-in-Some-try_normalize c =
+    let chosen : c.in-Some-try_normalize.az ≡ azimuth c.args.dir c.args.hint = search rules in
     record { value = chosen; bound = ap (vector2_within two) chosen ∙ azimuth_within c.args.dir c.args.hint c.requires }
 
-pub returns-in-Some-try-normalize-2 : goal.returns-in-Some-try-normalize-2
+pub returns-in-Some-try_normalize-2 : goal.returns-in-Some-try_normalize-2
 unfolding azimuth
-returns-in-Some-try-normalize-2 c =
-    let chosen : c.in-Some-try-normalize-2.az ≡ azimuth c.args.dir c.args.hint = search rules in
+returns-in-Some-try_normalize-2 c =
+    let chosen : c.in-Some-try_normalize-2.az ≡ azimuth c.args.dir c.args.hint = search rules in
     record { value = chosen; bound = ap (vector2_within two) chosen ∙ azimuth_within c.args.dir c.args.hint c.requires }
 
 pub returns-in-None : goal.returns-in-None

@@ -8,25 +8,25 @@ use Rattle.shape.specs.Nearness.{near_all}
 use Rattle.shape.proofs.Cuboids.{side_found, sign_on_side, face_near, around}
 use Rattle.shape.proofs.cuboid.Cuboid.face_towards.Goals as goal
 
-pub invariant-of-out-feature : goal.invariant-of-out-feature
-invariant-of-out-feature c =
+pub invariant_of-out_feature : goal.invariant_of-out_feature
+invariant_of-out_feature c =
     let k = c.args.self.now in
-    let dir = c.args.local-dir in
+    let dir = c.args.local_dir in
     let d = coordinate dir (main_axis_of dir) in
-    let here : c.face-vertices.result ≡ face_vertices_of k.half_extents (main_axis_of dir) (signed d one) = cc in
-    (ap near_all here ∙ face_near k.half_extents (main_axis_of dir) d k.sized, omega arith)
+    let here : c.face_vertices.result ≡ face_vertices_of k.half_extents (main_axis_of dir) (signed d one) = cc in
+    record { near = ap near_all here ∙ face_near k.half_extents (main_axis_of dir) d k.sized; few = omega arith }
 
 pub returns : goal.returns
 unfolding cuboid_fields
 returns c =
     let k = c.args.self.now in
     let he = k.half_extents in
-    let dir = c.args.local-dir in
+    let dir = c.args.local_dir in
     let axis = main_axis_of dir in
     let d = coordinate dir axis in
     let found = side_found d in
     let sign = sign_on_side d in
-    let here : c.face-vertices.result ≡ face_vertices_of he axis (signed d one) = cc in
-    let is : c.copy-sign-to-sign.result ≡ on_side (side_of d) one = cc in
-    let exact = subst (λ (a : ℕ). Across he a (side_of d) c.face-vertices.result) c.main-axis-imax.ensures.value (c.face-vertices.ensures.exact (side_of d) is) in
-    record { value = cc; corners = around he dir _ k.sized here exact }
+    let here : c.face_vertices.result ≡ face_vertices_of he axis (signed d one) = cc in
+    let is : c.copy_sign_to-sign.result ≡ on_side (side_of d) one = cc in
+    let exact = subst (λ (a : ℕ). Across he a (side_of d) c.face_vertices.result) c.main_axis-imax.ensures.value (c.face_vertices.ensures.exact (side_of d) is) in
+    record { value = cc; exact = around he dir _ k.sized here exact }

@@ -3,5 +3,5 @@ use Rattle.std.proofs.Common.{sym, ◌∙◌}
 use Rattle.shape.proofs.Cuboids.{sized}
 use Rattle.shape.proofs.cuboid.Cuboid.new.Goals as goal
 
-pub invariant-of-result : goal.invariant-of-result
-invariant-of-result c = (sized c.args.half-extents (sym c.is-given.ensures ∙ c.if-not-is-given.false) c.if-not-he.false, tt)
+pub invariant_of-result : goal.invariant_of-result
+invariant_of-result c = record { sized = sized c.args.half_extents (sym c.is_given.ensures ∙ c.if-not-is_given.false) c.if-not-he.false }

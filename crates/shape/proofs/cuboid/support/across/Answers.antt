@@ -8,5 +8,5 @@ use Rattle.shape.proofs.cuboid.support.across.Goals as goal
 
 pub returns : goal.returns
 returns c =
-    let h = c.args.half-extent in
+    let h = c.args.half_extent in
     record { value = refl; exact = λ side e. ap (λ (s : Float). h ⊗ s) e ∙ times_side h side (to_T _ c.well_formed.0.1) }

@@ -8,7 +8,7 @@ pub returns-in-0 : goal.returns-in-0
 unfolding face_corners edge_codes_of
 returns-in-0 c =
     let i = c.in-0.is in
-    elim (below_two c.args.sign-index c.requires.1) [
+    elim (below_two c.args.sign_index c.requires.1) [
       | inl e ↦ record { value = simp (e, i); small = simp e (omega arith, (omega arith, (omega arith, omega arith))) }
       | inr e ↦ record { value = simp (e, i); small = simp e (omega arith, (omega arith, (omega arith, omega arith))) }
     ]
@@ -17,16 +17,16 @@ pub returns-in-1 : goal.returns-in-1
 unfolding face_corners edge_codes_of
 returns-in-1 c =
     let i = c.in-1.is in
-    elim (below_two c.args.sign-index c.requires.1) [
+    elim (below_two c.args.sign_index c.requires.1) [
       | inl e ↦ record { value = simp (e, i); small = simp e (omega arith, (omega arith, (omega arith, omega arith))) }
       | inr e ↦ record { value = simp (e, i); small = simp e (omega arith, (omega arith, (omega arith, omega arith))) }
     ]
 
-pub returns-in-default : goal.returns-in-default
+pub returns-in_default : goal.returns-in_default
 unfolding face_corners edge_codes_of
-returns-in-default c =
+returns-in_default c =
     let i : c.args.imax ≡ 2 = omega arith in
-    elim (below_two c.args.sign-index c.requires.1) [
+    elim (below_two c.args.sign_index c.requires.1) [
       | inl e ↦ record { value = simp (e, i); small = simp e (omega arith, (omega arith, (omega arith, omega arith))) }
       | inr e ↦ record { value = simp (e, i); small = simp e (omega arith, (omega arith, (omega arith, omega arith))) }
     ]

@@ -18,9 +18,9 @@ returns-in-1 c =
     let value : c.new-in-1.result ∷ c.new-in-1-2.result ∷ c.new-in-1-3.result ∷ c.new-in-1-4.result ∷ [] ≡ face_vertices_of c.args.he c.args.imax c.args.sign = search rules in
     record { value = value; exact = λ side e. across_exact c.args.he c.args.sign side is (lit< tt) value c.across-y.ensures.value (c.across-y.ensures.exact side e) }
 
-pub returns-in-default : goal.returns-in-default
+pub returns-in_default : goal.returns-in_default
 unfolding face_vertices_of
-returns-in-default c =
+returns-in_default c =
     let is : c.args.imax ≡ 2 = omega arith in
-    let value : c.new-in-default.result ∷ c.new-in-default-2.result ∷ c.new-in-default-3.result ∷ c.new-in-default-4.result ∷ [] ≡ face_vertices_of c.args.he c.args.imax c.args.sign = search rules in
+    let value : c.new-in_default.result ∷ c.new-in_default-2.result ∷ c.new-in_default-3.result ∷ c.new-in_default-4.result ∷ [] ≡ face_vertices_of c.args.he c.args.imax c.args.sign = search rules in
     record { value = value; exact = λ side e. across_exact c.args.he c.args.sign side is (lit< tt) value c.across-z.ensures.value (c.across-z.ensures.exact side e) }

@@ -6,5 +6,5 @@ use Rattle.shape.proofs.cuboid.support.main_axis.Goals as goal
 
 pub returns : goal.returns
 returns c =
-    let is : c.max-position.result ≡ main_axis_of c.args.dir = cc in
+    let is : c.max_position.result ≡ main_axis_of c.args.dir = cc in
     record { value = is; place = subst (λ (i : ℕ). i < 3) (sym is) (axis_below c.args.dir) }

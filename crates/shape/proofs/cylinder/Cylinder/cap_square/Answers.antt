@@ -6,19 +6,19 @@ use Rattle.shape.specs.Nearness.{near_all}
 use Rattle.shape.proofs.Near.{rim_near}
 use Rattle.shape.proofs.cylinder.Cylinder.cap_square.Goals as goal
 
-pub invariant-of-out-features : goal.invariant-of-out-features
-invariant-of-out-features c =
+pub invariant_of-out_features : goal.invariant_of-out_features
+invariant_of-out_features c =
     let k = c.args.self.now in
     let az = c.args.dir2 in
     let made : (c.new.result ∷ c.new-2.result ∷ c.new-3.result ∷ c.new-4.result ∷ []) ≡ rim (signed c.args.dir.y k.half_height) k.radius az = cc in
-    (ap near_all made ∙ rim_near k.half_height k.radius az k.tall k.round c.requires c.args.dir.y, omega arith)
+    record { near = ap near_all made ∙ rim_near k.half_height k.radius az k.tall k.round c.requires c.args.dir.y; few = omega arith }
 
-pub invariant-of-out-features-else-dir : goal.invariant-of-out-features-else-dir
-invariant-of-out-features-else-dir c =
+pub invariant_of-out_features-else-dir : goal.invariant_of-out_features-else-dir
+invariant_of-out_features-else-dir c =
     let k = c.args.self.now in
     let az = c.args.dir2 in
     let made : (c.new.result ∷ c.new-2.result ∷ c.new-3.result ∷ c.new-4.result ∷ []) ≡ rim (signed c.args.dir.y k.half_height) k.radius az = cc in
-    (ap near_all made ∙ rim_near k.half_height k.radius az k.tall k.round c.requires c.args.dir.y, omega arith)
+    record { near = ap near_all made ∙ rim_near k.half_height k.radius az k.tall k.round c.requires c.args.dir.y; few = omega arith }
 
 pub returns-then-dir : goal.returns-then-dir
 unfolding cap bottom top

@@ -3,6 +3,6 @@ use Rattle.std.proofs.Common.{rules}
 use Rattle.shape.specs.Sizes.{is_size}
 use Rattle.shape.proofs.cylinder.Cylinder.new.Goals as goal
 
-pub invariant-of-result : goal.invariant-of-result
+pub invariant_of-result : goal.invariant_of-result
 unfolding is_size
-invariant-of-result c = search rules
+invariant_of-result c = search rules

@@ -6,13 +6,13 @@ use Rattle.shape.specs.Nearness.{near_all}
 use Rattle.shape.proofs.Near.{side_near}
 use Rattle.shape.proofs.cylinder.Cylinder.side_segment.Goals as goal
 
-pub invariant-of-out-features : goal.invariant-of-out-features
+pub invariant_of-out_features : goal.invariant_of-out_features
 unfolding side
-invariant-of-out-features c =
+invariant_of-out_features c =
     let k = c.args.self.now in
     let az = c.args.dir2 in
     let made : (c.new-lower.result ∷ c.new-upper.result ∷ origin ∷ origin ∷ []) ≡ (side k.half_height k.radius az).vertices = cc in
-    (ap near_all made ∙ side_near k.half_height k.radius az k.tall k.round c.requires, omega arith)
+    record { near = ap near_all made ∙ side_near k.half_height k.radius az k.tall k.round c.requires; few = omega arith }
 
 pub returns : goal.returns
 unfolding side

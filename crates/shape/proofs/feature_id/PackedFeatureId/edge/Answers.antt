@@ -10,7 +10,7 @@ pub returns : goal.returns
 returns c =
     let code = c.args.code in
     let below : code < 2 ^ 30 = omega arith in
-    let as-packed = c.packed-edge.ensures in
-    let value : done c.packed-edge.result ≡ packing edge_header code = search rules in
+    let as-packed = c.packed_edge.ensures in
+    let value : done c.packed_edge.result ≡ packing edge_header code = search rules in
     let u = unpacked_packed edge_header code below in
     record { value = value; back = cc; only = subst (λ (id : PackedFeatureId). OnlyFrom (done id) edge_header code) (sym as-packed) (only_from edge_header code below) }

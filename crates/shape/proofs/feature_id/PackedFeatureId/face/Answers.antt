@@ -10,7 +10,7 @@ pub returns : goal.returns
 returns c =
     let code = c.args.code in
     let below : code < 2 ^ 30 = omega arith in
-    let as-packed = c.packed-face.ensures in
-    let value : done c.packed-face.result ≡ packing face_header code = search rules in
+    let as-packed = c.packed_face.ensures in
+    let value : done c.packed_face.result ≡ packing face_header code = search rules in
     let u = unpacked_packed face_header code below in
     record { value = value; back = cc; only = subst (λ (id : PackedFeatureId). OnlyFrom (done id) face_header code) (sym as-packed) (only_from face_header code below) }

@@ -10,7 +10,7 @@ pub returns : goal.returns
 returns c =
     let code = c.args.code in
     let below : code < 2 ^ 30 = omega arith in
-    let as-packed = c.packed-vertex.ensures in
-    let value : done c.packed-vertex.result ≡ packing vertex_header code = search rules in
+    let as-packed = c.packed_vertex.ensures in
+    let value : done c.packed_vertex.result ≡ packing vertex_header code = search rules in
     let u = unpacked_packed vertex_header code below in
     record { value = value; back = cc; only = subst (λ (id : PackedFeatureId). OnlyFrom (done id) vertex_header code) (sym as-packed) (only_from vertex_header code below) }

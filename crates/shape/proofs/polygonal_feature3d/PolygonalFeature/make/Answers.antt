@@ -3,5 +3,5 @@ use Rattle.std.proofs.Common.{sym, ◌∙◌, arith}
 use Rattle.shape.proofs.Near.{all_near}
 use Rattle.shape.proofs.polygonal_feature3d.PolygonalFeature.make.Goals as goal
 
-pub invariant-of-out : goal.invariant-of-out
-invariant-of-out c = (all_near c.args.vertices (sym c.are-given.ensures ∙ c.if-not-are-given.false), omega arith)
+pub invariant_of-out : goal.invariant_of-out
+invariant_of-out c = record { near = all_near c.args.vertices (sym c.are_given.ensures ∙ c.if-not-are_given.false); few = omega arith }

@@ -3,5 +3,5 @@ use Rattle.std.proofs.Common.{arith}
 use Rattle.shape.proofs.Near.{nothing_near}
 use Rattle.shape.proofs.polygonal_feature3d.PolygonalFeature.new.Goals as goal
 
-pub invariant-of-result : goal.invariant-of-result
-invariant-of-result c = (nothing_near, omega arith)
+pub invariant_of-result : goal.invariant_of-result
+invariant_of-result c = record { near = nothing_near; few = omega arith }

@@ -6,13 +6,13 @@ use Rattle.shape.specs.Nearness.{near_all}
 use Rattle.shape.proofs.Moves.{near_moved}
 use Rattle.shape.proofs.polygonal_feature3d.PolygonalFeature.transform_by.Goals as goal
 
-pub returns-then-not-are-near : goal.returns-then-not-are-near
+pub returns-then-not-are_near : goal.returns-then-not-are_near
 unfolding moved
-returns-then-not-are-near c =
+returns-then-not-are_near c =
     let f = fields c.args.self.now in
     let p = c.args.pos.now in
-    let here : (c.moved-if.result ∷ c.moved-if-2.result ∷ c.moved-if-3.result ∷ c.moved-if-4.result ∷ []) ≡ (moved p f).vertices = cc in
-    let far : all_land_near p f ≡ false = sym (near_moved p f c.args.self.now.near) ∙ ap near_all (sym here) ∙ sym c.are-near.ensures ∙ c.if-not-are-near.true in
+    let here : (c.moved_if.result ∷ c.moved_if-2.result ∷ c.moved_if-3.result ∷ c.moved_if-4.result ∷ []) ≡ (moved p f).vertices = cc in
+    let far : all_land_near p f ≡ false = sym (near_moved p f c.args.self.now.near) ∙ ap near_all (sym here) ∙ sym c.are_near.ensures ∙ c.if-not-are_near.true in
     search rules
 
 pub returns : goal.returns
@@ -20,6 +20,6 @@ unfolding moved
 returns c =
     let f = fields c.args.self.now in
     let p = c.args.pos.now in
-    let here : (c.moved-if.result ∷ c.moved-if-2.result ∷ c.moved-if-3.result ∷ c.moved-if-4.result ∷ []) ≡ (moved p f).vertices = cc in
-    let close : all_land_near p f ≡ true = sym (near_moved p f c.args.self.now.near) ∙ ap near_all (sym here) ∙ sym c.are-near.ensures ∙ c.if-not-are-near.false in
+    let here : (c.moved_if.result ∷ c.moved_if-2.result ∷ c.moved_if-3.result ∷ c.moved_if-4.result ∷ []) ≡ (moved p f).vertices = cc in
+    let close : all_land_near p f ≡ true = sym (near_moved p f c.args.self.now.near) ∙ ap near_all (sym here) ∙ sym c.are_near.ensures ∙ c.if-not-are_near.false in
     search rules
