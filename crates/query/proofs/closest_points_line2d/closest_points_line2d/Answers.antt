@@ -5,9 +5,9 @@ use Rattle.query.specs.Meeting.{meeting_answer}
 use Rattle.query.proofs.EricsonLaw.{ericson}
 use Rattle.query.proofs.closest_points_line2d.closest_points_line2d.Goals as goal
 
-pub returns-then-not-is-given : goal.returns-then-not-is-given
+pub returns-then-not-is_given : goal.returns-then-not-is_given
 unfolding meeting_answer
-returns-then-not-is-given c =
+returns-then-not-is_given c =
     let told-so : refused 2 ≡ meeting_answer c.args.edge1 c.args.edge2 = search rules in
     record { answer = told-so; exact = ericson }
 

@@ -15,9 +15,9 @@ pub returns-then-e : goal.returns-then-e
 unfolding products parallel meeting
 returns-then-e c = search rules
 
-pub returns-then-denom-are-bits-close : goal.returns-then-denom-are-bits-close
+pub returns-then-denom-are_bits_close : goal.returns-then-denom-are_bits_close
 unfolding products parallel meeting
-returns-then-denom-are-bits-close c = search rules
+returns-then-denom-are_bits_close c = search rules
 
 pub returns : goal.returns
 unfolding products parallel meeting

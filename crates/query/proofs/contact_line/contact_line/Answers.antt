@@ -15,9 +15,9 @@ unfolding line
 returns g c =
     let k = c.args.contact.now in
     let old = c.args.buffer.now in
-    let new = c.put-group-9.new.buffer in
-    let fits : ltb (length old) 137 ≡ false = le-ltb (length old) 137 c.if-buffer-lt-CONTACT-LINE-LEN.false in
-    let word : (i : ℕ) → get_or c.number-bits-bits.result i 0 ≡ get_or (words (seen k)) i 0 = λ i. ap (λ (ws : List ℕ). get_or ws i 0) c.number-bits-bits.ensures in
+    let new = c.put_group-9.new.buffer in
+    let fits : ltb (length old) 137 ≡ false = le-ltb (length old) 137 c.if-buffer-lt-CONTACT_LINE_LEN.false in
+    let word : (i : ℕ) → get_or c.number_bits-bits.result i 0 ≡ get_or (words (seen k)) i 0 = λ i. ap (λ (ws : List ℕ). get_or ws i 0) c.number_bits-bits.ensures in
     let w0 = word 0 in
     let w1 = word 1 in
     let w2 = word 2 in
@@ -27,15 +27,15 @@ returns g c =
     let w6 = word 6 in
     let front : take 137 new ≡ line (seen k) = cc in
     let rest : drop 137 new ≡ drop 137 old =
-    c.put-group-9.ensures.rest 137 (omega arith)
-    ∙ c.put-group-8.ensures.rest 137 (omega arith)
-    ∙ c.put-group-7.ensures.rest 137 (omega arith)
-    ∙ c.put-group-6.ensures.rest 137 (omega arith)
-    ∙ c.put-group-5.ensures.rest 137 (omega arith)
-    ∙ c.put-group-4.ensures.rest 137 (omega arith)
-    ∙ c.put-group-3.ensures.rest 137 (omega arith)
-    ∙ c.put-group-2.ensures.rest 137 (omega arith)
-    ∙ c.put-group.ensures.rest 137 (omega arith) in
+    c.put_group-9.ensures.rest 137 (omega arith)
+    ∙ c.put_group-8.ensures.rest 137 (omega arith)
+    ∙ c.put_group-7.ensures.rest 137 (omega arith)
+    ∙ c.put_group-6.ensures.rest 137 (omega arith)
+    ∙ c.put_group-5.ensures.rest 137 (omega arith)
+    ∙ c.put_group-4.ensures.rest 137 (omega arith)
+    ∙ c.put_group-3.ensures.rest 137 (omega arith)
+    ∙ c.put_group-2.ensures.rest 137 (omega arith)
+    ∙ c.put_group.ensures.rest 137 (omega arith) in
     record {
       answer = sym (cond-false (ltb (length old) 137) (refused 14) (done tt) fits);
       after = sym (take-append-drop 137 new) ∙ both front rest ∙ sym (cond-false (ltb (length old) 137) old (line (seen k) ++ drop 137 old) fits);

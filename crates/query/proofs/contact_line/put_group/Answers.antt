@@ -13,10 +13,10 @@ loop-i-preserved c =
     let sofar = hex_front c.args.digits c.args.value c.loop-i.i in
     let p = c.args.at + c.loop-i.i in
     let within : p < length c.loop-i.buffer = omega arith in
-    let e = written_next c.loop-i.buffer front sofar p c.hex-digit.result within c.loop-i.invariant.0 in
+    let e = written_next c.loop-i.buffer front sofar p c.hex_digit.result within c.loop-i.invariant.0 in
     let h = hex_more c.args.digits c.args.value c.loop-i.i in
     let a = add_assoc c.args.at c.loop-i.i 1 in
-    (cc, λ k far. kept_behind c.loop-i.buffer c.args.buffer.now p c.hex-digit.result c.loop-i.invariant.1 k (omega arith))
+    (cc, λ k far. kept_behind c.loop-i.buffer c.args.buffer.now p c.hex_digit.result c.loop-i.invariant.1 k (omega arith))
 
 pub returns : goal.returns
 unfolding hex

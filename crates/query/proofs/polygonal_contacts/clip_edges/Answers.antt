@@ -7,25 +7,25 @@ use Rattle.query.specs.Edges.{edge_of, moved, edge_rule}
 use Rattle.query.proofs.ContactMagnitude.{edges_near}
 use Rattle.query.proofs.polygonal_contacts.clip_edges.Goals as goal
 
-pub contact-at-requires : goal.contact-at-requires
-contact-at-requires g c =
+pub contact_at-requires : goal.contact_at-requires
+contact_at-requires g c =
     let f1 = fields c.args.face1.now in
     let f2 = fields c.args.face2.now in
     let answer = c.in-Ok-Some.ensures in
     let same : clipped (edge_of f1) (moved c.args.pos12.now (edge_of f2)) ≡ done (Some (c.in-Ok-Some.low, c.in-Ok-Some.high)) = cc in
-    record { fit = c.requires; near = (edges_near c.args.pos12.now c.args.sep-axis1 c.requires f1 f2 c.args.face1.now.near c.args.face2.now.near c.in-Ok-Some.low c.in-Ok-Some.high same).0 }
+    record { fit = c.requires; near = (edges_near c.args.pos12.now c.args.sep_axis1 c.requires f1 f2 c.args.face1.now.near c.args.face2.now.near c.in-Ok-Some.low c.in-Ok-Some.high same).0 }
 
-pub contact-at-requires-in-Ok-Some : goal.contact-at-requires-in-Ok-Some
-contact-at-requires-in-Ok-Some g c =
+pub contact_at-requires-in-Ok-Some : goal.contact_at-requires-in-Ok-Some
+contact_at-requires-in-Ok-Some g c =
     let f1 = fields c.args.face1.now in
     let f2 = fields c.args.face2.now in
     let answer = c.in-Ok-Some.ensures in
     let same : clipped (edge_of f1) (moved c.args.pos12.now (edge_of f2)) ≡ done (Some (c.in-Ok-Some.low, c.in-Ok-Some.high)) = cc in
-    record { fit = c.requires; near = (edges_near c.args.pos12.now c.args.sep-axis1 c.requires f1 f2 c.args.face1.now.near c.args.face2.now.near c.in-Ok-Some.low c.in-Ok-Some.high same).1 }
+    record { fit = c.requires; near = (edges_near c.args.pos12.now c.args.sep_axis1 c.requires f1 f2 c.args.face1.now.near c.args.face2.now.near c.in-Ok-Some.low c.in-Ok-Some.high same).1 }
 
-pub returns-then-are-crossing : goal.returns-then-are-crossing
+pub returns-then-are_crossing : goal.returns-then-are_crossing
 unfolding edge_rule
-returns-then-are-crossing g c = search rules
+returns-then-are_crossing g c = search rules
 
 pub returns-in-Err : goal.returns-in-Err
 unfolding edge_rule

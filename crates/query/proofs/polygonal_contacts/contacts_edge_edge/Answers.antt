@@ -3,21 +3,21 @@ use Rattle.std.proofs.Common.{rules}
 use Rattle.query.specs.Edges.{framed, edging}
 use Rattle.query.proofs.polygonal_contacts.contacts_edge_edge.Goals as goal
 
-pub clip-edges-requires : goal.clip-edges-requires
+pub clip_edges-requires : goal.clip_edges-requires
 unfolding framed
-clip-edges-requires g c = search rules
+clip_edges-requires g c = search rules
 
-pub returns-then-not-is-given : goal.returns-then-not-is-given
+pub returns-then-not-is_given : goal.returns-then-not-is_given
 unfolding edging
-returns-then-not-is-given g c = search rules
+returns-then-not-is_given g c = search rules
 
-pub returns-then-not-is-unit : goal.returns-then-not-is-unit
+pub returns-then-not-is_unit : goal.returns-then-not-is_unit
 unfolding edging
-returns-then-not-is-unit g c = search rules
+returns-then-not-is_unit g c = search rules
 
-pub returns-then-not-is-unit-2 : goal.returns-then-not-is-unit-2
+pub returns-then-not-is_unit-2 : goal.returns-then-not-is_unit-2
 unfolding edging
-returns-then-not-is-unit-2 g c = search rules
+returns-then-not-is_unit-2 g c = search rules
 
 pub returns : goal.returns
 unfolding edging

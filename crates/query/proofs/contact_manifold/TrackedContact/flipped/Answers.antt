@@ -5,7 +5,7 @@ use Rattle.query.proofs.ContactMagnitude.{bounded_swap}
 use Rattle.query.proofs.contact_manifold.TrackedContact.flipped.Goals as goal
 
 pub new-requires-else-not-flipped : goal.new-requires-else-not-flipped
-new-requires-else-not-flipped g c = bounded_swap c.args.local-p1 c.args.local-p2 c.args.dist c.requires
+new-requires-else-not-flipped g c = bounded_swap c.args.local_p1 c.args.local_p2 c.args.dist c.requires
 
 pub returns-then-not-flipped : goal.returns-then-not-flipped
 unfolding turned
