@@ -59,21 +59,21 @@ hex_read most bs (Err x) few short e reads =
     absurd (omega arith)
 
 -- a text that does not begin with `x`
-unmarked : (bs : List ℕ) → ((rest : List ℕ) → bs ≡ 120 ∷ rest → ⊥) → begins (codes "x") bs ≡ false
-unmarked [] h = refl
-unmarked (b ∷ bs) h =
+pub without_mark : (bs : List ℕ) → ((rest : List ℕ) → bs ≡ 120 ∷ rest → ⊥) → begins (codes "x") bs ≡ false
+without_mark [] h = refl
+without_mark (b ∷ bs) h =
     let other : eqb 120 b ≡ false = ne_eqb 120 b (λ e. h bs (ap (λ (c : ℕ). c ∷ bs) (sym e))) in
     ap (λ (t : Bool). t && true) other
 
 pub is_decimal : (bs : List ℕ) → ((rest : List ℕ) → bs ≡ 120 ∷ rest → ⊥) → is_float_text bs ≡ is_number bs
-is_decimal bs h = sym (ap (λ (t : Bool). cond t (is_some (bits_number (drop 1 bs))) (is_float_text bs)) (unmarked bs h))
+is_decimal bs h = sym (ap (λ (t : Bool). cond t (is_some (bits_number (drop 1 bs))) (is_float_text bs)) (without_mark bs h))
 
 -- a text that does not begin with `x` is read as a decimal
 pub decimal_read : (bs : List ℕ) (o : Option Float) → ((rest : List ℕ) → bs ≡ 120 ∷ rest → ⊥) → is_some o ≡ is_float_text bs → IfSome o (λ x. Whole x bs) → IfSome o (λ x. Writes x bs)
 decimal_read bs None h test some = tt
 decimal_read bs (Some x) h test some = record {
   number = sym (is_decimal bs h) ∙ sym test;
-  bits = λ marked. absurd (clash (sym (unmarked bs h) ∙ marked));
+  bits = λ marked. absurd (clash (sym (without_mark bs h) ∙ marked));
   whole = some;
 }
 

@@ -1,5 +1,6 @@
 // The script: a line of bytes is read as a command.
 #![tactic(auto)]
+
 pub mod command;
 pub mod fault;
 mod numbers;

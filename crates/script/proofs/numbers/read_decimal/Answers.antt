@@ -11,7 +11,7 @@ pub returns-in-Ok : goal.returns-in-Ok
 returns-in-Ok c =
     let ds = c.in-Some.digits.now in
     let e = c.in-Some.ensures in
-    let reads = c.in-Ok.ensures.reads in
+    let reads = c.in-Ok.ensures.value.0 in
     record {
       test = reads.0 ∙ same_test ds e.1 ∙ ap is_float_text (sym e.0);
       some = subst (Whole (opposite c.in-Ok.value)) (sym e.0) (minus_read ds c.in-Ok.value e.1 reads);
@@ -21,7 +21,7 @@ pub returns-in-None : goal.returns-in-None
 returns-in-None c =
     let bs = c.args.text.now in
     let none = c.in-None.ensures in
-    let reads = c.parse-in-None.ensures.value in
+    let reads = c.parse-in-None.ensures.value.0 in
     record {
       test = c.ok.ensures.variant ∙ reads.0;
       some = subst (λ (o : Option Float). IfSome o (λ x. Whole x bs)) (sym c.ok.ensures.value) (unsigned_read bs c.parse-in-None.result none reads);

@@ -10,8 +10,8 @@ returns c =
     let bs = c.args.text.now in
     let most = c.args.most in
     let short : length bs ≤ most = omega arith in
-    let e : is_numeral_of 16 bs ≡ true = sym c.is-numeral.ensures ∙ c.if-not-is-numeral.false in
-    let found = hex_read most bs c.from-str-radix.result c.requires short e c.from-str-radix.ensures.value in
+    let e : is_numeral_of 16 bs ≡ true = sym c.is_numeral.ensures ∙ c.if-not-is_numeral.false in
+    let found = hex_read most bs c.from_str_radix.result c.requires short e c.from_str_radix.ensures.value in
     let choice : Bool → Option ℕ = λ b. cond b (Some (digits_value 16 bs)) None in
     let both : is_numeral_of 16 bs && leb (length bs) most ≡ true = ap (λ (b : Bool). b && leb (length bs) most) e ∙ le-leb (length bs) most short in
     c.ok.ensures.value ∙ found ∙ sym (ap choice both)

@@ -46,23 +46,24 @@ alone line (Ok c) loud t = λ d means. other means
     other (remark s) = absurd (clash (sym loud ∙ s))
     other (spelt d q text s) = same_items c d (words line) (no_remark line loud t.spelt) (no_remark line loud s) t.spelt s
 
-pub returns-then-is-silent : goal.returns-then-is-silent
-returns-then-is-silent c = record { cases = remark (sym c.if-is-silent.ensures); one = λ _ means. silence _ (sym c.if-is-silent.ensures) means; succeeds = λ _ _. refl }
+pub returns-then-is_silent : goal.returns-then-is_silent
+returns-then-is_silent c = record { silent = λ _. refl; cases = remark (sym c.if-is_silent.ensures); one = λ _ means. silence _ (sym c.if-is_silent.ensures) means; succeeds = λ _ _. refl }
 
 pub returns-in-Ok : goal.returns-in-Ok
 returns-in-Ok c =
     let line = c.args.line.now in
-    let loud = sym c.if-is-silent.ensures in
+    let loud = sym c.if-is_silent.ensures in
     let text = c.in-Ok.ensures.cases in
-    let took = subst (λ (t : Text). Took spelling past_line (words t) c.read-text.result []) text.0 c.read-text.ensures in
+    let took = subst (λ (t : Text). Took spelling past_line (words t) c.read_text.result []) text.0 c.read_text.ensures in
     record {
-      cases = stands line c.read-text.result loud text.1 took;
-      one = alone line c.read-text.result loud took;
-      succeeds = λ _ means. read_on (words line) c.read-text.result took (passed line loud means);
+      silent = λ quiet. absurd (clash (sym loud ∙ quiet));
+      cases = stands line c.read_text.result loud text.1 took;
+      one = alone line c.read_text.result loud took;
+      succeeds = λ _ means. read_on (words line) c.read_text.result took (passed line loud means);
     }
 
 pub returns-in-Err : goal.returns-in-Err
 returns-in-Err c =
-    let loud = sym c.if-is-silent.ensures in
+    let loud = sym c.if-is_silent.ensures in
     let none = c.in-Err.ensures.cases.0 in
-    record { cases = not_text loud none; one = tt; succeeds = λ _ means. absurd (none (is_text loud means)) }
+    record { silent = λ quiet. absurd (clash (sym loud ∙ quiet)); cases = not_text loud none; one = tt; succeeds = λ _ means. absurd (none (is_text loud means)) }

@@ -4,8 +4,8 @@ use Rattle.script.specs.Readings.{past_kind}
 use Rattle.script.proofs.Parts.{by, unsaid}
 use Rattle.script.proofs.reading.read_id.Goals as goal
 
-pub returns-in-default : goal.returns-in-default
-returns-in-default c = record {
-  course = unsaid _ _ c.in-default.not-face ∙ unsaid _ _ c.in-default.not-edge ∙ unsaid _ _ c.in-default.not-vertex ∙ by past_kind c.in-ok-expected.ensures;
+pub returns-in_default : goal.returns-in_default
+returns-in_default c = record {
+  course = unsaid _ _ c.in_default.not-face ∙ unsaid _ _ c.in_default.not-edge ∙ unsaid _ _ c.in_default.not-vertex ∙ by past_kind c.in_ok-expected.ensures;
   spelt = tt;
 }

@@ -3,4 +3,4 @@ use Rattle.script.proofs.Parts.{read, took, ◌&◌}
 use Rattle.script.proofs.words.Words.row.Goals as goal
 
 pub returns : goal.returns
-returns c = took (read c.in-ok-count.ensures & read c.in-ok-vertices.ensures & read c.in-ok-vids.ensures & read c.in-ok-eids.ensures & read c.in-ok-fid.ensures)
+returns c = took (read c.in_ok-count.ensures & read c.in_ok-vertices.ensures & read c.in_ok-vids.ensures & read c.in_ok-eids.ensures & read c.in_ok-fid.ensures)

@@ -7,8 +7,8 @@ use Rattle.script.specs.declared.fault.Fault.TheVariants.{NotOneOrTwo}
 use Rattle.script.proofs.Parts.{other_text}
 use Rattle.script.proofs.words.Words.which.Goals as goal
 
-pub returns-in-default : goal.returns-in-default
-returns-in-default c =
-    let neither = or_from _ _ (other_text c.in-default.not-text) (other_text c.in-default.not-text-2) in
+pub returns-in_default : goal.returns-in_default
+returns-in_default c =
+    let neither = or_from _ _ (other_text c.in_default.not-text) (other_text c.in_default.not-text-2) in
     let choice : Bool → Progress = λ b. cond b (reached (coming c.expected.new.self)) (faulty NotOneOrTwo) in
-    record { course = sym (ap past_ordinal c.in-ok-expected.ensures ∙ ap choice neither); spelt = tt }
+    record { course = sym (ap past_ordinal c.in_ok-expected.ensures ∙ ap choice neither); spelt = tt }
