@@ -1,14 +1,14 @@
 -- Text written in two steps is the text of the first and then that of the second; a step that fails fails the whole.
-use Rattle.std.proofs.Common.{◌≡◌, ℕ, ◌+◌, ◌<◌, ◌≤◌, Bool, true, false, cond, List, [], ◌++◌, length, is_ok, is_err, Ok, Err, string_bytes, string_len, string_capacity, Result, String, sym, refl, ap, ◌∙◌, subst, append_assoc, append-nil, arith, length-append, MatchResult}
+use Rattle.std.proofs.Common.{◌≡◌, ℕ, ◌+◌, ◌<◌, ◌≤◌, Bool, true, false, cond, List, [], ◌++◌, length, is_ok, is_err, Ok, Err, string_bytes, string_len, string_capacity, Result, String, sym, refl, ap, ◌∙◌, subst, append_assoc, append-nil, arith, length-append, OnOk, OnErr}
 use borrow.Author.Tests.{clash}
-use Rattle.bench.specs.Texts.{Wrote}
+use Rattle.bench.specs.Texts.{Wrote, Appended}
 
 module _ {Z : Type 0} where
   -- what stands there after a step that is done
-  pub bytes : {s t : String Z} {a : List ℕ} → Wrote s a true t → string_bytes t ≡ string_bytes s ++ a
+  pub bytes : {s t : String Z} {a : List ℕ} → Appended s a true t → string_bytes t ≡ string_bytes s ++ a
   bytes {s} w = w.kept ∙ ap (λ (x : List ℕ). string_bytes s ++ x) (w.whole refl)
 
-  pub nothing : {s : String Z} → Wrote s [] true s
+  pub nothing : {s : String Z} → Appended s [] true s
   nothing {s} = record {
     added = [];
     kept = sym (append-nil (string_bytes s));
@@ -18,7 +18,7 @@ module _ {Z : Type 0} where
   }
 
   -- one call of the library's
-  pub pushed : {E : Type 0} {s t : String Z} {a : List ℕ} (r : Result (Unit {0}) E) → string_bytes t ≡ cond (is_ok r) (string_bytes s ++ a) (string_bytes s) → string_capacity s ≤ string_capacity t → MatchResult r (λ _. string_len t ≡ string_len s + length a) (λ _. string_capacity s < string_len s + length a) → Wrote s a (is_ok r) t
+  pub pushed : {E : Type 0} {s t : String Z} {a : List ℕ} (r : Result (Unit {0}) E) → string_bytes t ≡ cond (is_ok r) (string_bytes s ++ a) (string_bytes s) → string_capacity s ≤ string_capacity t → OnErr r (string_capacity s < string_len s + length a) → Appended s a (is_ok r) t
   pushed {a = a} (Ok u) e g h = record {
     added = a;
     kept = e;
@@ -34,7 +34,7 @@ module _ {Z : Type 0} where
     grows = g;
   }
 
-  pub then : {s t v : String Z} {a b : List ℕ} {ok : Bool} → Wrote s a true t → Wrote t b ok v → Wrote s (a ++ b) ok v
+  pub then : {s t v : String Z} {a b : List ℕ} {ok : Bool} → Appended s a true t → Appended t b ok v → Appended s (a ++ b) ok v
   then {s} {t} {v} {a} {b} w z = record {
     added = a ++ z.added;
     kept = z.kept ∙ ap (λ (x : List ℕ). x ++ z.added) (bytes w) ∙ append_assoc (string_bytes s) a z.added;
@@ -49,7 +49,7 @@ module _ {Z : Type 0} where
   }
 
   -- a step that fails at a text that is no longer than this one
-  pub within : {s t : String Z} {a b : List ℕ} → length a ≤ length b → Wrote s a false t → Wrote s b false t
+  pub within : {s t : String Z} {a b : List ℕ} → length a ≤ length b → Appended s a false t → Appended s b false t
   within {s} {t} {a} {b} l w = record {
     added = w.added;
     kept = w.kept;
@@ -59,16 +59,21 @@ module _ {Z : Type 0} where
   }
 
   -- a step that fails before the rest is written
-  pub stopped : {s t : String Z} {a : List ℕ} (b : List ℕ) → Wrote s a false t → Wrote s (a ++ b) false t
+  pub stopped : {s t : String Z} {a : List ℕ} (b : List ℕ) → Appended s a false t → Appended s (a ++ b) false t
   stopped {a = a} b w = let q = length-append a b in within (omega (arith, q)) w
 
   -- a step that fails is handed on
-  pub broken : {E : Type 0} {s t : String Z} {a : List ℕ} (r : Result (Unit {0}) E) → is_err r ≡ true → Wrote s a false t → Wrote s a (is_ok r) t
+  pub broken : {E : Type 0} {s t : String Z} {a : List ℕ} (r : Result (Unit {0}) E) → is_err r ≡ true → Appended s a false t → Appended s a (is_ok r) t
   broken (Ok u) h w = absurd (clash h)
   broken (Err x) h w = w
 
-  pub as_text : {s t : String Z} {a b : List ℕ} {ok : Bool} → a ≡ b → Wrote s a ok t → Wrote s b ok t
-  as_text {s} {t} {ok = ok} e w = subst (λ (x : List ℕ). Wrote s x ok t) e w
+  -- what stands there after a step, if it is done
+  pub wrote : {E : Type 0} {s t : String Z} {a : List ℕ} (r : Result (Unit {0}) E) → Appended s a (is_ok r) t → OnOk r (Wrote (string_bytes s) a (string_bytes t))
+  wrote (Ok u) w = record { bytes = bytes w }
+  wrote (Err x) w = tt
+
+  pub as_text : {s t : String Z} {a b : List ℕ} {ok : Bool} → a ≡ b → Appended s a ok t → Appended s b ok t
+  as_text {s} {t} {ok = ok} e w = subst (λ (x : List ℕ). Appended s x ok t) e w
 
   -- ---- a text of pieces, one to a turn of a loop
 
@@ -76,20 +81,20 @@ module _ {Z : Type 0} where
   pub record Ahead (s : String Z) (all : List ℕ) (t : String Z) (rest : List ℕ) : Type 0 where
     pub front : List ℕ
     pub parts : all ≡ front ++ rest
-    pub wrote : Wrote s front true t
+    pub wrote : Appended s front true t
 
   pub begun : {s : String Z} {all : List ℕ} → Ahead s all s all
   begun = record { front = []; parts = refl; wrote = nothing }
 
-  pub advanced : {s t v : String Z} {all rest : List ℕ} {a : List ℕ} (more : List ℕ) → rest ≡ a ++ more → Ahead s all t rest → Wrote t a true v → Ahead s all v more
+  pub advanced : {s t v : String Z} {all rest : List ℕ} {a : List ℕ} (more : List ℕ) → rest ≡ a ++ more → Ahead s all t rest → Appended t a true v → Ahead s all v more
   advanced {a = a} more e h w = record {
     front = h.front ++ a;
     parts = h.parts ∙ ap (λ (x : List ℕ). h.front ++ x) e ∙ sym (append_assoc h.front a more);
     wrote = then h.wrote w;
   }
 
-  pub failed : {s t v : String Z} {all rest : List ℕ} {a : List ℕ} (more : List ℕ) → rest ≡ a ++ more → Ahead s all t rest → Wrote t a false v → Wrote s all false v
+  pub failed : {s t v : String Z} {all rest : List ℕ} {a : List ℕ} (more : List ℕ) → rest ≡ a ++ more → Ahead s all t rest → Appended t a false v → Appended s all false v
   failed more e h w = as_text (sym (h.parts ∙ ap (λ (x : List ℕ). h.front ++ x) e)) (then h.wrote (stopped more w))
 
-  pub ended : {s t : String Z} {all rest : List ℕ} → rest ≡ [] → Ahead s all t rest → Wrote s all true t
+  pub ended : {s t : String Z} {all rest : List ℕ} → rest ≡ [] → Ahead s all t rest → Appended s all true t
   ended e h = as_text (sym (h.parts ∙ ap (λ (x : List ℕ). h.front ++ x) e ∙ append-nil h.front)) h.wrote

@@ -1,5 +1,5 @@
 -- The number falls with each digit.
 use Rattle.bench.proofs.writing.+write_decimal.Given as goal
 
-abbrev pub decreases-write-decimal : goal.decreases-write-decimal
-decreases-write-decimal l = l.n
+abbrev pub decreases-write_decimal : goal.decreases-write_decimal
+decreases-write_decimal l = l.n

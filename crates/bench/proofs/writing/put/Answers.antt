@@ -4,5 +4,5 @@ use Rattle.bench.proofs.writing.put.Goals as goal
 
 pub returns : goal.returns
 returns c =
-    let e = c.push-str.ensures in
-    pushed c.push-str.result e.bytes e.capacity e.cases
+    let e = c.push_str.ensures in
+    pushed c.push_str.result e.bytes e.capacity e.full

@@ -5,4 +5,4 @@ use Rattle.bench.proofs.writing.put_char.Goals as goal
 pub returns : goal.returns
 returns c =
     let e = c.push.ensures in
-    as_text (e.ascii c.requires) (pushed c.push.result e.bytes e.capacity e.cases)
+    as_text (e.ascii c.requires) (pushed c.push.result e.bytes e.capacity e.full)

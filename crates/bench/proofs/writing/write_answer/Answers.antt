@@ -4,5 +4,5 @@ use Rattle.bench.specs.Texts.{written}
 use Rattle.bench.proofs.Joins.{nothing, as_text}
 use Rattle.bench.proofs.writing.write_answer.Goals as goal
 
-pub returns-in-Nothing : goal.returns-in-Nothing
-returns-in-Nothing c = as_text (sym (ap written c.in-Nothing.is)) nothing
+pub returns-in-Nothing-clause-appended : goal.returns-in-Nothing-clause-appended
+returns-in-Nothing-clause-appended c = as_text (sym (ap written c.in-Nothing.is)) nothing

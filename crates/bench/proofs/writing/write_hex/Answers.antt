@@ -20,20 +20,20 @@ loop-i-preserved c =
     let n = c.args.digits in
     let v = c.args.value in
     let i = c.loop-i.i in
-    let d = ap (λ (x : ℕ). x ∷ []) c.hex-digit.ensures.value in
-    as_text (hex_more n v i) (then c.loop-i.invariant (as_text d c.in-ok-put-char.ensures))
+    let d = ap (λ (x : ℕ). x ∷ []) c.hex_digit.ensures.value in
+    as_text (hex_more n v i) (then c.loop-i.invariant (as_text d c.in_ok-put_char.ensures))
 
-pub returns-in-err-put-char : goal.returns-in-err-put-char
+pub returns-in_err-put_char : goal.returns-in_err-put_char
 unfolding hex
-returns-in-err-put-char c =
+returns-in_err-put_char c =
     let n = c.args.digits in
     let v = c.args.value in
     let i = c.loop-i.i in
-    let w = then c.loop-i.invariant c.in-err-put-char.ensures in
-    let p = length-append (hex_front n v i) (c.hex-digit.result ∷ []) in
+    let w = then c.loop-i.invariant c.in_err-put_char.ensures in
+    let p = length-append (hex_front n v i) (c.hex_digit.result ∷ []) in
     let e = front_length n v i in
     let f = front_length n v n in
-    broken c.from-residual.result c.from-residual.ensures.0 (within (omega (arith, p, e, f)) w)
+    broken c.from_residual.result c.from_residual.ensures.0 (within (omega (arith, p, e, f)) w)
 
 pub returns : goal.returns
 unfolding hex

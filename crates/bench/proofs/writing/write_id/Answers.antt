@@ -2,11 +2,11 @@
 use Rattle.bench.proofs.Joins.{then, stopped, broken}
 use Rattle.bench.proofs.writing.write_id.Goals as goal
 
-pub returns-in-err-write-hex : goal.returns-in-err-write-hex
-returns-in-err-write-hex c = broken c.from-residual.result c.from-residual.ensures.0 (stopped _ c.in-err-write-hex.ensures)
+pub returns-in_err-write_hex : goal.returns-in_err-write_hex
+returns-in_err-write_hex c = broken c.from_residual.result c.from_residual.ensures.0 (stopped _ c.in_err-write_hex.ensures)
 
-pub returns-in-err-put : goal.returns-in-err-put
-returns-in-err-put c = broken c.from-residual-in-err-put.result c.from-residual-in-err-put.ensures.0 (then c.in-ok-write-hex.ensures c.in-err-put.ensures)
+pub returns-in_err-put : goal.returns-in_err-put
+returns-in_err-put c = broken c.from_residual-in_err-put.result c.from_residual-in_err-put.ensures.0 (then c.in_ok-write_hex.ensures c.in_err-put.ensures)
 
 pub returns : goal.returns
-returns c = then c.in-ok-write-hex.ensures c.in-ok-put.ensures
+returns c = then c.in_ok-write_hex.ensures c.in_ok-put.ensures

@@ -19,21 +19,21 @@ loop-id-preserved c =
     let xs = c.args.ids.now in
     let i = c.loop-id.id-index in
     let n = next xs i (record { 0 = 0 }) c.loop-id-test.true in
-    advanced (ids_text (drop (i + 1) xs)) n c.loop-id.invariant (then c.in-ok-put.ensures c.in-ok-write-hex.ensures)
+    advanced (ids_text (drop (i + 1) xs)) n c.loop-id.invariant (then c.in_ok-put.ensures c.in_ok-write_hex.ensures)
 
-pub returns-in-err-put : goal.returns-in-err-put
-returns-in-err-put c =
+pub returns-in_err-put : goal.returns-in_err-put
+returns-in_err-put c =
     let xs = c.args.ids.now in
     let i = c.loop-id.id-index in
     let n = next xs i (record { 0 = 0 }) c.loop-id-test.true in
-    broken c.from-residual.result c.from-residual.ensures.0 (failed (ids_text (drop (i + 1) xs)) n c.loop-id.invariant (stopped _ c.in-err-put.ensures))
+    broken c.from_residual.result c.from_residual.ensures.0 (failed (ids_text (drop (i + 1) xs)) n c.loop-id.invariant (stopped _ c.in_err-put.ensures))
 
-pub returns-in-err-write-hex : goal.returns-in-err-write-hex
-returns-in-err-write-hex c =
+pub returns-in_err-write_hex : goal.returns-in_err-write_hex
+returns-in_err-write_hex c =
     let xs = c.args.ids.now in
     let i = c.loop-id.id-index in
     let n = next xs i (record { 0 = 0 }) c.loop-id-test.true in
-    broken c.from-residual-in-err-write-hex.result c.from-residual-in-err-write-hex.ensures.0 (failed (ids_text (drop (i + 1) xs)) n c.loop-id.invariant (then c.in-ok-put.ensures c.in-err-write-hex.ensures))
+    broken c.from_residual-in_err-write_hex.result c.from_residual-in_err-write_hex.ensures.0 (failed (ids_text (drop (i + 1) xs)) n c.loop-id.invariant (then c.in_ok-put.ensures c.in_err-write_hex.ensures))
 
 pub returns : goal.returns
 unfolding ids_text

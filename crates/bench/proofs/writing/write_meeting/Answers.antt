@@ -4,17 +4,17 @@ use Rattle.bench.specs.Texts.{meeting_text}
 use Rattle.bench.proofs.Joins.{then, stopped, as_text, broken}
 use Rattle.bench.proofs.writing.write_meeting.Goals as goal
 
-pub returns-in-err-write-number : goal.returns-in-err-write-number
-returns-in-err-write-number c = broken c.from-residual.result c.from-residual.ensures.0 (as_text (sym (ap meeting_text c.in-Some.is)) (stopped _ c.in-err-write-number.ensures))
+pub returns-in_err-write_number-in-Some : goal.returns-in_err-write_number-in-Some
+returns-in_err-write_number-in-Some c = broken c.from_residual.result c.from_residual.ensures.0 (as_text (sym (ap meeting_text c.in-Some.is)) (stopped _ c.in_err-write_number-in-Some.ensures))
 
-pub returns-in-err-put : goal.returns-in-err-put
-returns-in-err-put c = broken c.from-residual-in-err-put.result c.from-residual-in-err-put.ensures.0 (as_text (sym (ap meeting_text c.in-Some.is)) (then c.in-ok-write-number.ensures (stopped _ c.in-err-put.ensures)))
+pub returns-in_err-put-in-Some : goal.returns-in_err-put-in-Some
+returns-in_err-put-in-Some c = broken c.from_residual-in_err-put-in-Some.result c.from_residual-in_err-put-in-Some.ensures.0 (as_text (sym (ap meeting_text c.in-Some.is)) (then c.in_ok-write_number-in-Some.ensures (stopped _ c.in_err-put-in-Some.ensures)))
 
-pub returns-in-err-write-number-2 : goal.returns-in-err-write-number-2
-returns-in-err-write-number-2 c = broken c.from-residual-in-err-write-number-2.result c.from-residual-in-err-write-number-2.ensures.0 (as_text (sym (ap meeting_text c.in-Some.is)) (then c.in-ok-write-number.ensures (then c.in-ok-put.ensures (stopped _ c.in-err-write-number-2.ensures))))
+pub returns-in_err-write_number-in-Some-2 : goal.returns-in_err-write_number-in-Some-2
+returns-in_err-write_number-in-Some-2 c = broken c.from_residual-in_err-write_number-in-Some-2.result c.from_residual-in_err-write_number-in-Some-2.ensures.0 (as_text (sym (ap meeting_text c.in-Some.is)) (then c.in_ok-write_number-in-Some.ensures (then c.in_ok-put-in-Some.ensures (stopped _ c.in_err-write_number-in-Some-2.ensures))))
 
-pub returns-in-err-put-2 : goal.returns-in-err-put-2
-returns-in-err-put-2 c = broken c.from-residual-in-err-put-2.result c.from-residual-in-err-put-2.ensures.0 (as_text (sym (ap meeting_text c.in-Some.is)) (then c.in-ok-write-number.ensures (then c.in-ok-put.ensures (then c.in-ok-write-number-2.ensures c.in-err-put-2.ensures))))
+pub returns-in_err-put-in-Some-2 : goal.returns-in_err-put-in-Some-2
+returns-in_err-put-in-Some-2 c = broken c.from_residual-in_err-put-in-Some-2.result c.from_residual-in_err-put-in-Some-2.ensures.0 (as_text (sym (ap meeting_text c.in-Some.is)) (then c.in_ok-write_number-in-Some.ensures (then c.in_ok-put-in-Some.ensures (then c.in_ok-write_number-in-Some-2.ensures c.in_err-put-in-Some-2.ensures))))
 
-pub returns-in-ok-put-2 : goal.returns-in-ok-put-2
-returns-in-ok-put-2 c = as_text (sym (ap meeting_text c.in-Some.is)) (then c.in-ok-write-number.ensures (then c.in-ok-put.ensures (then c.in-ok-write-number-2.ensures c.in-ok-put-2.ensures)))
+pub returns-in_ok-put-in-Some-2 : goal.returns-in_ok-put-in-Some-2
+returns-in_ok-put-in-Some-2 c = as_text (sym (ap meeting_text c.in-Some.is)) (then c.in_ok-write_number-in-Some.ensures (then c.in_ok-put-in-Some.ensures (then c.in_ok-write_number-in-Some-2.ensures c.in_ok-put-in-Some-2.ensures)))

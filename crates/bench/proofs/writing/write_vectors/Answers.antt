@@ -19,21 +19,21 @@ loop-v-preserved c =
     let xs = c.args.vectors.now in
     let i = c.loop-v.v-index in
     let n = next xs i (record { x = nan; y = nan; z = nan }) c.loop-v-test.true in
-    advanced (vectors_text (drop (i + 1) xs)) n c.loop-v.invariant (then c.in-ok-put.ensures c.in-ok-write-vector.ensures)
+    advanced (vectors_text (drop (i + 1) xs)) n c.loop-v.invariant (then c.in_ok-put.ensures c.in_ok-write_vector.ensures)
 
-pub returns-in-err-put : goal.returns-in-err-put
-returns-in-err-put c =
+pub returns-in_err-put : goal.returns-in_err-put
+returns-in_err-put c =
     let xs = c.args.vectors.now in
     let i = c.loop-v.v-index in
     let n = next xs i (record { x = nan; y = nan; z = nan }) c.loop-v-test.true in
-    broken c.from-residual.result c.from-residual.ensures.0 (failed (vectors_text (drop (i + 1) xs)) n c.loop-v.invariant (stopped _ c.in-err-put.ensures))
+    broken c.from_residual.result c.from_residual.ensures.0 (failed (vectors_text (drop (i + 1) xs)) n c.loop-v.invariant (stopped _ c.in_err-put.ensures))
 
-pub returns-in-err-write-vector : goal.returns-in-err-write-vector
-returns-in-err-write-vector c =
+pub returns-in_err-write_vector : goal.returns-in_err-write_vector
+returns-in_err-write_vector c =
     let xs = c.args.vectors.now in
     let i = c.loop-v.v-index in
     let n = next xs i (record { x = nan; y = nan; z = nan }) c.loop-v-test.true in
-    broken c.from-residual-in-err-write-vector.result c.from-residual-in-err-write-vector.ensures.0 (failed (vectors_text (drop (i + 1) xs)) n c.loop-v.invariant (then c.in-ok-put.ensures c.in-err-write-vector.ensures))
+    broken c.from_residual-in_err-write_vector.result c.from_residual-in_err-write_vector.ensures.0 (failed (vectors_text (drop (i + 1) xs)) n c.loop-v.invariant (then c.in_ok-put.ensures c.in_err-write_vector.ensures))
 
 pub returns : goal.returns
 unfolding vectors_text
