@@ -1,4 +1,6 @@
 // Runs a script from standard input and writes the answer to each of its lines.
+#![tactic(auto)]
+
 use bench::session::Session;
 use bench::{help, writing};
 use std::io::{BufRead, BufReader, Write};

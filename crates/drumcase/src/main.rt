@@ -1,4 +1,6 @@
 // Two cylinders meet side by side, and each contact between them is written as a contact line.
+#![tactic(auto)]
+
 use anyhow::anyhow;
 use math::pose::{Pose, Rotation};
 use math::refusal::Refusal;
@@ -21,7 +23,7 @@ fn main(rt: HostRuntime) -> anyhow::Result<()> {
 fn run(rt: &HostRuntime) -> anyhow::Result<()> {
     match meet() {
         Ok(contacts) => print_contacts(rt, contacts),
-        Err(refusal) => Err(refusal.reason().into()),
+        Err(refusal) => Err(anyhow!("{}", refusal.reason())),
     }
 }
 
@@ -58,6 +60,6 @@ fn print_contact(rt: &HostRuntime, contact: &Contact) -> anyhow::Result<()> {
             rt.stdout().write_all(&buffer)?;
             Ok(())
         }
-        Err(refusal) => Err(refusal.reason().into()),
+        Err(refusal) => Err(anyhow!("{}", refusal.reason())),
     }
 }
