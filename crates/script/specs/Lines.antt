@@ -1,5 +1,5 @@
 -- What a line of a script means, or why it cannot be read.
-use Rattle.std.specs.Prelude.{◌≡◌, Bool, true, false, cond, [], ◌∷◌, IsUtf8, ◌==◌}
+use Rattle.std.specs.Prelude.{ℕ, List, ◌≡◌, Bool, true, false, cond, [], ◌∷◌, IsUtf8, ◌==◌}
 use Rattle.script.specs.Grammar.{Spelt, spelling, settled_items}
 use Rattle.script.specs.Readings.{past_line, faulty}
 use Rattle.script.specs.Words.{Text, words}
@@ -9,7 +9,7 @@ use Rattle.script.specs.declared.fault.Fault.{Fault}
 use Rattle.script.specs.declared.fault.Fault.TheVariants.{NotText}
 
 -- nothing but spaces, or a first word that begins with '#'
-abbrev pub silent : Text → Bool
+abbrev pub silent : List ℕ → Bool
 silent [] = true
 silent (c ∷ cs) = cond (c == 32) (silent cs) (c == 35)
 
