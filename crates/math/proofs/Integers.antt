@@ -1,5 +1,5 @@
 -- Whole numbers with a sign as differences of natural numbers, so that an identity of polynomials over them is one over natural numbers.
-use Rattle.std.proofs.Common.{◌≡◌, ℕ, zero, suc, ◌+◌, ◌-◌, ◌*◌, ◌<◌, ◌≤◌, ltb, ℤ, pos, negsuc, ◌+ℤ◌, ◌*ℤ◌, neg_ℤ, sym, refl, ap, ◌∙◌, subst, inl, inr, arith}
+use Rattle.std.proofs.Common.{◌≡◌, ℕ, zero, suc, ◌+◌, ◌-◌, ◌*◌, ◌<◌, ◌≤◌, ltb, ℤ, pos, negsuc, ◌+ℤ◌, ◌-ℤ◌, ◌*ℤ◌, neg_ℤ, sym, refl, ap, ◌∙◌, subst, inl, inr, arith}
 use lib.IntN.{sub_ℕ}
 use Rattle.std.proofs.lemmas.Bool.{cases_lt, cond-true, cond-false, lt-ltb, le-ltb}
 
@@ -44,6 +44,16 @@ neg_pos (suc n) = let h : 0 < suc n = omega arith in let s : n ≡ suc n - suc 0
 pos_is : (n : ℕ) → pos n ≡ difference n 0
 pos_is n = let h : 0 ≤ n = omega arith in let s : n ≡ n - 0 = omega arith in ap pos s ∙ sym (positive n 0 h)
 
+pub neg_difference : (p n : ℕ) → neg_ℤ (difference p n) ≡ difference n p
+neg_difference p n =
+    elim (cases_lt p n) [
+      | inl h ↦
+          let k : p ≤ n = omega arith in
+          let s : suc (n - suc p) ≡ n - p = omega arith in
+          ap neg_ℤ (negative p n h) ∙ ap pos s ∙ sym (positive n p k)
+      | inr h ↦ let s : 0 + p ≡ n + (p - n) = omega arith in ap neg_ℤ (positive p n h) ∙ neg_pos (p - n) ∙ same_difference 0 (p - n) n p s
+    ]
+
 open_sub : (a b : ℕ) → sub_ℕ a b ≡ difference a b
 unfolding difference
 open_sub a b = refl
@@ -76,6 +86,9 @@ add_difference p n q m =
                 both ◌+ℤ◌ (positive p n h) (positive q m k) ∙ ap pos s ∙ sym (positive (p + q) (n + m) l)
           ]
     ]
+
+pub sub_difference : (p n q m : ℕ) → difference p n -ℤ difference q m ≡ difference (p + m) (n + q)
+sub_difference p n q m = ap (λ (z : ℤ). difference p n +ℤ z) (neg_difference q m) ∙ add_difference p n m q
 
 -- ---- products
 

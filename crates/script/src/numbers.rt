@@ -18,7 +18,7 @@ pub fn read_number(text: &str) -> Option<f64>
     }
 }
 
-// The library does not say which number it reads from digits after a minus, so it is given the digits alone.
+// Digits after a minus are read alone, so that what holds of digits alone holds of them, and the sign is turned.
 fn read_decimal(text: &str) -> Option<f64>
     ensures test { is_some result ≡ is_float_text text.now }
     ensures some { IfSome result (λ x. Whole x text.now) }

@@ -1,6 +1,6 @@
 -- The face of a cuboid: its axis is one of three, its side one of two, its corners lie near.
-use Rattle.std.proofs.Common.{◌≡◌, ℕ, zero, suc, ◌+◌, ◌*◌, ◌<◌, Bool, true, false, cond, not, ◌&&◌, T, eqb, ◌⊎◌, List, [], ◌∷◌, get_or, sym, refl, ap, ◌∙◌, subst, inl, inr, arith}
-use lib.Ieee.{Float, binary64, nan, inf, fin, of_bits, is_nan, lt, le, neg, mul, round, fits}
+use Rattle.std.proofs.Common.{◌≡◌, ℕ, zero, suc, ◌+◌, ◌*◌, ◌<◌, Bool, true, false, cond, not, ◌&&◌, eqb, ◌⊎◌, List, get_or, ℤ, refl, ap, ◌∙◌, subst, inl, inr, arith}
+use lib.Ieee.{Float, binary64, nan, inf, fin, of_bits, is_nan, lt, le, neg, mul, round}
 use Rattle.std.specs.Float.{float_with_sign, is_sign_negative}
 use Rattle.std.proofs.lemmas.Bool.{and_parts, and_from, cond_both}
 use Rattle.math.specs.Basis.{signed}
@@ -11,12 +11,12 @@ use Rattle.math.specs.Magnitude.{bound, within, vector_within}
 use Rattle.math.specs.Vectors.{sizes, vector_number, largest_place, coordinate, FirstLargest}
 use Rattle.math.specs.declared.vector.Vector.{Vector}
 use Rattle.math.proofs.Largest as Largest
-use Rattle.math.proofs.TimesOne.{times_one, times_minus_one}
+use Rattle.math.proofs.Signs.{sign_product}
 use Rattle.math.proofs.Magnitude.{no, mul_within, neg_within}
 use Rattle.math.proofs.UnitMagnitude.{limit_bound}
 use Rattle.math.proofs.VectorMagnitude.{coordinates}
-use Rattle.shape.specs.Cuboids.{main_axis_of, side_of, face_vertices_of, face_corners, corner_at, vertex_codes_of, joining, edge_codes_of, four_codes, cuboid_fields, PlusOrMinus, on_side, Across, FaceCorner, AroundFace, ExactCorner, ExactlyAround, next, Neighbours, Supporting}
-use Rattle.shape.specs.Features.{Fields, unknown}
+use Rattle.shape.specs.Cuboids.{main_axis_of, side_of, face_vertices_of, face_corners, corner_at, vertex_codes_of, joining, edge_codes_of, four_codes, cuboid_fields, PlusOrMinus, FaceCorner, AroundFace, next, Neighbours, Supporting}
+use Rattle.shape.specs.Features.{unknown}
 use Rattle.shape.specs.Ids.{packed, vertex_header, edge_header, face_header}
 use Rattle.shape.specs.Nearness.{vertex_limit, vertex_at, all_within, near_all}
 use Rattle.shape.specs.Sizes.{is_size, are_sizes}
@@ -47,15 +47,6 @@ sign_side false = refl
 -- the test of the sign finds the side
 pub side_found : (d : Float) → ◌≡◌ {A = ℕ} (cond (lt F.zero (signed d one)) 1 0) (side_of d)
 side_found d = sign_side (is_sign_negative d)
-
-one_on_side : (b : Bool) → float_with_sign b one ≡ on_side (cond b 0 1) one
-unfolding of_bits float_with_sign neg
-one_on_side true = refl
-one_on_side false = refl
-
--- the sign is 1 on the side 1, -1 on the side 0
-pub sign_on_side : (d : Float) → signed d one ≡ on_side (side_of d) one
-sign_on_side d = one_on_side (is_sign_negative d)
 
 -- ---- nearness
 
@@ -150,12 +141,6 @@ unfolding is_size
 put_sign true h H = opposite_sign h (and_parts _ _ H).1
 put_sign false h H = above_positive h (and_parts _ _ H).1
 
-coordinate_size : (he : Vector) (axis : ℕ) → are_sizes he ≡ true → is_size (coordinate he axis) ≡ true
-unfolding are_sizes
-coordinate_size he zero H = (and_parts _ _ (and_parts _ _ H).0).0
-coordinate_size he (suc zero) H = (and_parts _ _ (and_parts _ _ H).0).1
-coordinate_size he (suc (suc axis)) H = (and_parts _ _ H).1
-
 past : (k : ℕ) → suc (suc (suc k)) < 3 → ⊥
 past k l = omega arith
 
@@ -165,135 +150,87 @@ past_four k l = omega arith
 abbrev bit : Bool → ℕ
 bit b = cond b 1 0
 
--- a half extent times the sign of a side is the half extent on that side
-pub times_side : (h : Float) (side : ℕ) → T (fits binary64 h) → h ⊗ on_side side one ≡ on_side side h
-times_side h side H = go (eqb side 1)
-  where
-    go : (b : Bool) → h ⊗ cond b one (opposite one) ≡ cond b h (opposite h)
-    go true = times_one h H
-    go false = times_minus_one h H
-
--- what holds of four vertices holds of each
-of_four : (P : Vector → Type 0) (a b c d : Vector) → P a → P b → P c → P d → (i : ℕ) → i < 4 → P (vertex_at (a ∷ b ∷ c ∷ d ∷ []) i)
-of_four P a b c d p q r s zero l = p
-of_four P a b c d p q r s (suc zero) l = q
-of_four P a b c d p q r s (suc (suc zero)) l = r
-of_four P a b c d p q r s (suc (suc (suc zero))) l = s
-of_four P a b c d p q r s (suc (suc (suc (suc i)))) l = absurd (past_four i l)
-
-face_exact : (he : Vector) (axis : ℕ) (sign : Float) (side : ℕ) → axis < 3 → coordinate he axis ⊗ sign ≡ on_side side (coordinate he axis) → Across he axis side (face_vertices_of he axis sign)
-unfolding face_vertices_of
-face_exact he zero sign side l E = of_four (λ (v : Vector). v.x ≡ on_side side he.x) _ _ _ _ E E E E
-face_exact he (suc zero) sign side l E = of_four (λ (v : Vector). v.y ≡ on_side side he.y) _ _ _ _ E E E E
-face_exact he (suc (suc zero)) sign side l E = of_four (λ (v : Vector). v.z ≡ on_side side he.z) _ _ _ _ E E E E
-face_exact he (suc (suc (suc axis))) sign side l E = absurd (past axis l)
-
--- where the product along the face's axis is exact, so is each vertex there
-pub across_exact : (he : Vector) (sign : Float) (side : ℕ) {axis k : ℕ} {a : Float} {vs : List Vector} → axis ≡ k → k < 3 → vs ≡ face_vertices_of he axis sign → a ≡ coordinate he k ⊗ sign → a ≡ on_side side (coordinate he k) → Across he axis side vs
-across_exact he sign side {axis} {k} is l e p q = subst (Across he axis side) (sym e) (subst (λ (j : ℕ). Across he j side (face_vertices_of he j sign)) (sym is) (face_exact he k sign side l (sym p ∙ q)))
-
-side_either : (side : ℕ) (h : Float) → PlusOrMinus h (on_side side h)
-side_either side h = cond_both (eqb side 1) h (opposite h) (PlusOrMinus h) (λ p. inl refl) (λ p. inr refl)
-
 module _ (he : Vector) (H : are_sizes he ≡ true) (sign : Float) (side : ℕ) where
-  -- the product by the sign is exact
-  abbrev Exact : Float → Type 0
-  Exact h = h ⊗ sign ≡ on_side side h
+  sized_x : is_size he.x ≡ true
+  unfolding are_sizes
+  sized_x = (and_parts _ _ (and_parts _ _ H).0).0
 
-  exact_either : (h : Float) → Exact h → PlusOrMinus h (h ⊗ sign)
-  exact_either h E = subst (PlusOrMinus h) {x = on_side side h} (sym E) (side_either side h)
+  sized_y : is_size he.y ≡ true
+  unfolding are_sizes
+  sized_y = (and_parts _ _ (and_parts _ _ H).0).1
+
+  sized_z : is_size he.z ≡ true
+  unfolding are_sizes
+  sized_z = (and_parts _ _ H).1
 
   on_x : Bool → Bool → Vector
   on_x b c = record { x = he.x ⊗ sign; y = put b he.y; z = put c he.z }
 
-  at_x : Exact he.x → (b c : Bool) (n : ℕ) → n ≡ 4 * side + 2 * bit b + bit c → ExactCorner he 0 side (on_x b c) n
+  at_x : (b c : Bool) (n : ℕ) → n ≡ 4 * side + 2 * bit b + bit c → FaceCorner he 0 sign side (on_x b c) n
   unfolding on_x
-  at_x E b c n e =
-      let p = put_sign b he.y (coordinate_size he 1 H) in
-      let q = put_sign c he.z (coordinate_size he 2 H) in
-      record { corner = each; across = E; bits = cc }
+  at_x b c n e =
+      let p = put_sign b he.y sized_y in
+      let q = put_sign c he.z sized_z in
+      record { across = refl; along = others; bits = cc }
     where
-      each : (k : ℕ) → k < 3 → PlusOrMinus (coordinate he k) (coordinate (on_x b c) k)
-      each zero l = exact_either he.x E
-      each (suc zero) l = put_either b he.y
-      each (suc (suc k)) l = put_either c he.z
+      others : (k : ℕ) → k < 3 → (k ≡ 0 → ⊥) → PlusOrMinus (coordinate he k) (coordinate (on_x b c) k)
+      others zero l m = absurd (m refl)
+      others (suc zero) l m = put_either b he.y
+      others (suc (suc k)) l m = put_either c he.z
 
   on_y : Bool → Bool → Vector
   on_y b c = record { x = put b he.x; y = he.y ⊗ sign; z = put c he.z }
 
-  at_y : Exact he.y → (b c : Bool) (n : ℕ) → n ≡ 4 * bit b + 2 * side + bit c → ExactCorner he 1 side (on_y b c) n
+  at_y : (b c : Bool) (n : ℕ) → n ≡ 4 * bit b + 2 * side + bit c → FaceCorner he 1 sign side (on_y b c) n
   unfolding on_y
-  at_y E b c n e =
-      let p = put_sign b he.x (coordinate_size he 0 H) in
-      let q = put_sign c he.z (coordinate_size he 2 H) in
-      record { corner = each; across = E; bits = cc }
+  at_y b c n e =
+      let p = put_sign b he.x sized_x in
+      let q = put_sign c he.z sized_z in
+      record { across = refl; along = others; bits = cc }
     where
-      each : (k : ℕ) → k < 3 → PlusOrMinus (coordinate he k) (coordinate (on_y b c) k)
-      each zero l = put_either b he.x
-      each (suc zero) l = exact_either he.y E
-      each (suc (suc k)) l = put_either c he.z
+      others : (k : ℕ) → k < 3 → (k ≡ 1 → ⊥) → PlusOrMinus (coordinate he k) (coordinate (on_y b c) k)
+      others zero l m = put_either b he.x
+      others (suc zero) l m = absurd (m refl)
+      others (suc (suc k)) l m = put_either c he.z
 
   on_z : Bool → Bool → Vector
   on_z b c = record { x = put b he.x; y = put c he.y; z = he.z ⊗ sign }
 
-  at_z : Exact he.z → (b c : Bool) (n : ℕ) → n ≡ 4 * bit b + 2 * bit c + side → ExactCorner he 2 side (on_z b c) n
+  at_z : (b c : Bool) (n : ℕ) → n ≡ 4 * bit b + 2 * bit c + side → FaceCorner he 2 sign side (on_z b c) n
   unfolding on_z
-  at_z E b c n e =
-      let p = put_sign b he.x (coordinate_size he 0 H) in
-      let q = put_sign c he.y (coordinate_size he 1 H) in
-      record { corner = each; across = E; bits = cc }
+  at_z b c n e =
+      let p = put_sign b he.x sized_x in
+      let q = put_sign c he.y sized_y in
+      record { across = refl; along = others; bits = cc }
     where
-      each : (k : ℕ) → k < 3 → PlusOrMinus (coordinate he k) (coordinate (on_z b c) k)
-      each zero l = put_either b he.x
-      each (suc zero) l = put_either c he.y
-      each (suc (suc k)) l = exact_either he.z E
+      others : (k : ℕ) → k < 3 → (k ≡ 2 → ⊥) → PlusOrMinus (coordinate he k) (coordinate (on_z b c) k)
+      others zero l m = put_either b he.x
+      others (suc zero) l m = put_either c he.y
+      others (suc (suc zero)) l m = absurd (m refl)
+      others (suc (suc (suc k))) l m = absurd (past k l)
 
-  pub face_corner : (axis : ℕ) → axis < 3 → Across he axis side (face_vertices_of he axis sign) → (i : ℕ) → i < 4 → ExactCorner he axis side (vertex_at (face_vertices_of he axis sign) i) (corner_at axis side i)
+  pub face_corner : (axis : ℕ) → axis < 3 → (i : ℕ) → i < 4 → FaceCorner he axis sign side (vertex_at (face_vertices_of he axis sign) i) (corner_at axis side i)
   unfolding face_vertices_of face_corners on_x on_y on_z
-  face_corner zero a E zero l = at_x (E zero l) false false _ (omega arith)
-  face_corner zero a E (suc zero) l = at_x (E (suc zero) l) true false _ (omega arith)
-  face_corner zero a E (suc (suc zero)) l = at_x (E (suc (suc zero)) l) true true _ (omega arith)
-  face_corner zero a E (suc (suc (suc zero))) l = at_x (E (suc (suc (suc zero))) l) false true _ (omega arith)
-  face_corner zero a E (suc (suc (suc (suc i)))) l = absurd (past_four i l)
-  face_corner (suc zero) a E zero l = at_y (E zero l) false false _ (omega arith)
-  face_corner (suc zero) a E (suc zero) l = at_y (E (suc zero) l) true false _ (omega arith)
-  face_corner (suc zero) a E (suc (suc zero)) l = at_y (E (suc (suc zero)) l) true true _ (omega arith)
-  face_corner (suc zero) a E (suc (suc (suc zero))) l = at_y (E (suc (suc (suc zero))) l) false true _ (omega arith)
-  face_corner (suc zero) a E (suc (suc (suc (suc i)))) l = absurd (past_four i l)
-  face_corner (suc (suc zero)) a E zero l = at_z (E zero l) false false _ (omega arith)
-  face_corner (suc (suc zero)) a E (suc zero) l = at_z (E (suc zero) l) false true _ (omega arith)
-  face_corner (suc (suc zero)) a E (suc (suc zero)) l = at_z (E (suc (suc zero)) l) true true _ (omega arith)
-  face_corner (suc (suc zero)) a E (suc (suc (suc zero))) l = at_z (E (suc (suc (suc zero))) l) true false _ (omega arith)
-  face_corner (suc (suc zero)) a E (suc (suc (suc (suc i)))) l = absurd (past_four i l)
-  face_corner (suc (suc (suc axis))) a E i l = absurd (past axis a)
+  face_corner zero a zero l = at_x false false _ (omega arith)
+  face_corner zero a (suc zero) l = at_x true false _ (omega arith)
+  face_corner zero a (suc (suc zero)) l = at_x true true _ (omega arith)
+  face_corner zero a (suc (suc (suc zero))) l = at_x false true _ (omega arith)
+  face_corner zero a (suc (suc (suc (suc i)))) l = absurd (past_four i l)
+  face_corner (suc zero) a zero l = at_y false false _ (omega arith)
+  face_corner (suc zero) a (suc zero) l = at_y true false _ (omega arith)
+  face_corner (suc zero) a (suc (suc zero)) l = at_y true true _ (omega arith)
+  face_corner (suc zero) a (suc (suc (suc zero))) l = at_y false true _ (omega arith)
+  face_corner (suc zero) a (suc (suc (suc (suc i)))) l = absurd (past_four i l)
+  face_corner (suc (suc zero)) a zero l = at_z false false _ (omega arith)
+  face_corner (suc (suc zero)) a (suc zero) l = at_z false true _ (omega arith)
+  face_corner (suc (suc zero)) a (suc (suc zero)) l = at_z true true _ (omega arith)
+  face_corner (suc (suc zero)) a (suc (suc (suc zero))) l = at_z true false _ (omega arith)
+  face_corner (suc (suc zero)) a (suc (suc (suc (suc i)))) l = absurd (past_four i l)
+  face_corner (suc (suc (suc axis))) a i l = absurd (past axis a)
 
-pub around : (he dir : Vector) (vs : List Vector) → are_sizes he ≡ true → vs ≡ (cuboid_fields he dir).vertices → Across he (main_axis_of dir) (side_of (coordinate dir (main_axis_of dir))) vs → ExactlyAround he dir vs
+pub around : (he dir : Vector) → are_sizes he ≡ true → AroundFace he dir (cuboid_fields he dir).vertices
 unfolding cuboid_fields
-around he dir vs H e E =
-    let axis = main_axis_of dir in
-    let d = coordinate dir axis in
-    subst (λ (us : List Vector). Across he axis (side_of d) us → ExactlyAround he dir us) {x = face_vertices_of he axis (signed d one)} (sym e) (face_corner he H (signed d one) (side_of d) axis (axis_below dir)) E
-
--- ---- the corner as the product computes it
-
-face_product : (he : Vector) (axis : ℕ) (sign : Float) → axis < 3 → (i : ℕ) → i < 4 → coordinate (vertex_at (face_vertices_of he axis sign) i) axis ≡ coordinate he axis ⊗ sign
-unfolding face_vertices_of
-face_product he zero sign l = of_four (λ (v : Vector). v.x ≡ he.x ⊗ sign) _ _ _ _ refl refl refl refl
-face_product he (suc zero) sign l = of_four (λ (v : Vector). v.y ≡ he.y ⊗ sign) _ _ _ _ refl refl refl refl
-face_product he (suc (suc zero)) sign l = of_four (λ (v : Vector). v.z ≡ he.z ⊗ sign) _ _ _ _ refl refl refl refl
-face_product he (suc (suc (suc axis))) sign l = absurd (past axis l)
-
--- an exact corner is one, where its coordinate across the face is the product by the sign
-corner_of_exact : (he : Vector) (axis : ℕ) (sign : Float) (side : ℕ) (v : Vector) (n : ℕ) → ExactCorner he axis side v n → coordinate v axis ≡ coordinate he axis ⊗ sign → FaceCorner he axis sign side v n
-corner_of_exact he axis sign side v n exact product = record { across = product; along = λ k l other. exact.corner k l; bits = exact.bits }
-
-pub around_face : (he dir : Vector) (vs : List Vector) → vs ≡ (cuboid_fields he dir).vertices → ExactlyAround he dir vs → AroundFace he dir vs
-unfolding cuboid_fields
-around_face he dir vs e exact i l =
-    let axis = main_axis_of dir in
-    let d = coordinate dir axis in
-    let product = subst (λ (us : List Vector). coordinate (vertex_at us i) axis ≡ coordinate he axis ⊗ signed d one) {x = face_vertices_of he axis (signed d one)} (sym e) (face_product he axis (signed d one) (axis_below dir) i l) in
-    corner_of_exact he axis (signed d one) (side_of d) (vertex_at vs i) (corner_at axis (side_of d) i) (exact i l) product
+around he dir H i l = face_corner he H _ _ (main_axis_of dir) (axis_below dir) i l
 
 pub first_largest : (v : Vector) → vector_number v ≡ true → FirstLargest v (largest_place v)
 unfolding largest_place
@@ -304,13 +241,32 @@ first_largest v n =
 
 -- ---- sign and numbers
 
--- the half extent on a side has the side's sign
-side_sign : (h d : Float) → is_size h ≡ true → is_sign_negative (on_side (side_of d) h) ≡ is_sign_negative d
-side_sign h d H = go (is_sign_negative d)
-  where
-    go : (b : Bool) → is_sign_negative (on_side (cond b 0 1) h) ≡ b
-    go true = put_sign true h H
-    go false = put_sign false h H
+one_sign : (b : Bool) (m : ℕ) (e : ℤ) → is_sign_negative (fin false m e ⊗ float_with_sign b one) ≡ b
+unfolding of_bits float_with_sign
+one_sign true m e = sign_product binary64 false true m _ e _
+one_sign false m e = sign_product binary64 false false m _ e _
+
+above_zero : (h : Float) → is_size h ≡ true → lt F.zero h ≡ true
+unfolding is_size
+above_zero h H = (and_parts _ _ H).1
+
+finite_sign : (h d : Float) → within limit h ≡ true → lt F.zero h ≡ true → is_sign_negative (h ⊗ signed d one) ≡ is_sign_negative d
+unfolding of_bits lt within le float_with_sign
+finite_sign nan d w l = no l
+finite_sign (inf true) d w l = no l
+finite_sign (inf false) d w l = no w
+finite_sign (fin true m e) d w l = no l
+finite_sign (fin false m e) d w l = one_sign (is_sign_negative d) m e
+
+-- a half extent times the sign has that sign
+across_sign : (h d : Float) → is_size h ≡ true → is_sign_negative (h ⊗ signed d one) ≡ is_sign_negative d
+across_sign h d H = finite_sign h d (size_given h H) (above_zero h H)
+
+face_sign : (he : Vector) (d : Float) (axis : ℕ) → are_sizes he ≡ true → axis < 3 → is_sign_negative (coordinate he axis ⊗ signed d one) ≡ is_sign_negative d
+unfolding are_sizes
+face_sign he d zero H a = across_sign he.x d (and_parts _ _ (and_parts _ _ H).0).0
+face_sign he d (suc zero) H a = across_sign he.y d (and_parts _ _ (and_parts _ _ H).0).1
+face_sign he d (suc (suc axis)) H a = across_sign he.z d (and_parts _ _ H).1
 
 neighbours : (axis side : ℕ) → axis < 3 → (i : ℕ) → i < 4 → Neighbours axis (corner_at axis side i) (corner_at axis side (next i))
 unfolding face_corners
@@ -350,18 +306,16 @@ edge_numbers axis side (suc (suc (suc (suc i)))) l = absurd (past_four i l)
 face_number : (axis side : ℕ) → axis + side * 3 + 10 ≡ 10 + axis + 3 * side
 face_number axis side = omega arith
 
-pub supports : (he dir : Vector) (f : Fields) → are_sizes he ≡ true → f ≡ cuboid_fields he dir → ExactlyAround he dir f.vertices → Supporting dir f
+pub supports : (he dir : Vector) → are_sizes he ≡ true → Supporting dir (cuboid_fields he dir)
 unfolding cuboid_fields
-supports he dir f H e = subst (λ (g : Fields). ExactlyAround he dir g.vertices → Supporting dir g) {x = cuboid_fields he dir} (sym e) written
-  where
-    written : ExactlyAround he dir (cuboid_fields he dir).vertices → Supporting dir (cuboid_fields he dir)
-    written corners =
-        let axis = main_axis_of dir in
-        let d = coordinate dir axis in
-        record {
-          signs = λ i l. ap is_sign_negative (corners i l).across ∙ side_sign (coordinate he axis) d (coordinate_size he axis H);
-          vertex = vertex_numbers axis (side_of d);
-          edge = edge_numbers axis (side_of d);
-          neighbours = neighbours axis (side_of d) (axis_below dir);
-          face = ap (packed face_header) (face_number axis (side_of d));
-        }
+supports he dir H =
+    let axis = main_axis_of dir in
+    let d = coordinate dir axis in
+    let a = axis_below dir in
+    record {
+      signs = λ i l. ap is_sign_negative (face_corner he H (signed d one) (side_of d) axis a i l).across ∙ face_sign he d axis H a;
+      vertex = vertex_numbers axis (side_of d);
+      edge = edge_numbers axis (side_of d);
+      neighbours = neighbours axis (side_of d) a;
+      face = ap (packed face_header) (face_number axis (side_of d));
+    }

@@ -1,5 +1,6 @@
 pub mod Azimuth
 pub mod Cuboids
+pub mod ExactCorners
 pub mod Ids
 pub mod Moves
 pub mod Near

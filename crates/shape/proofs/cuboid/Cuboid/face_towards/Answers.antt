@@ -1,11 +1,12 @@
--- The sign tells the side, every corner lies near by `face_near`, and each vertex is one by `around`.
-use Rattle.std.proofs.Common.{◌≡◌, ℕ, ap, ◌∙◌, subst, arith}
+-- The sign tells the side, every corner lies near by `face_near`, and each vertex is one, and exactly one, by `around` and `exactly_around`.
+use Rattle.std.proofs.Common.{◌≡◌, ℕ, sym, ap, ◌∙◌, subst, arith}
 use Rattle.math.specs.Basis.{signed}
 use Rattle.math.specs.Floats.{one}
 use Rattle.math.specs.Vectors.{coordinate}
-use Rattle.shape.specs.Cuboids.{main_axis_of, side_of, on_side, face_vertices_of, cuboid_fields, Across}
+use Rattle.shape.specs.Cuboids.{main_axis_of, side_of, on_side, face_vertices_of, cuboid_fields, Across, AroundFace}
 use Rattle.shape.specs.Nearness.{near_all}
-use Rattle.shape.proofs.Cuboids.{side_found, sign_on_side, face_near, around}
+use Rattle.shape.proofs.Cuboids.{side_found, face_near, around}
+use Rattle.shape.proofs.ExactCorners.{sign_on_side, exactly_around}
 use Rattle.shape.proofs.cuboid.Cuboid.face_towards.Goals as goal
 
 pub invariant_of-out_feature : goal.invariant_of-out_feature
@@ -29,4 +30,5 @@ returns c =
     let here : c.face_vertices.result ≡ face_vertices_of he axis (signed d one) = cc in
     let is : c.copy_sign_to-sign.result ≡ on_side (side_of d) one = cc in
     let exact = subst (λ (a : ℕ). Across he a (side_of d) c.face_vertices.result) c.main_axis-imax.ensures.value (c.face_vertices.ensures.exact (side_of d) is) in
-    record { value = cc; exact = around he dir _ k.sized here exact }
+    let corners = subst (AroundFace he dir) {x = face_vertices_of he axis (signed d one)} (sym here) (around he dir k.sized) in
+    record { value = cc; exact = exactly_around he dir _ corners exact }

@@ -1,11 +1,11 @@
 -- The test of the numbers decides whether the place is written; numbers have a first largest one.
-use Rattle.std.proofs.Common.{◌≡◌, cond, None, ap, sym, ◌∙◌, rules}
+use Rattle.std.proofs.Common.{◌≡◌, cond, None, sym, ◌∙◌, subst, rules}
 use Rattle.math.specs.Refusals.{done}
 use Rattle.math.specs.Vectors.{sizes}
-use Rattle.shape.specs.Cuboids.{cuboid_fields}
+use Rattle.shape.specs.Cuboids.{cuboid_fields, AroundFace, Supporting}
 use Rattle.shape.specs.Features.{Fields, fields}
 use Rattle.shape.specs.Supports.{direction_given, supporting}
-use Rattle.shape.proofs.Cuboids.{around_face, supports, first_largest, sizes_number}
+use Rattle.shape.proofs.Cuboids.{around, supports, first_largest, sizes_number}
 use Rattle.shape.proofs.cuboid.Cuboid.support_face.Goals as goal
 
 pub returns : goal.returns
@@ -21,7 +21,7 @@ returns c =
       answer = answer;
       after = after;
       axis = λ g. first_largest (sizes dir) (sizes_number dir given);
-      corners = λ g. around_face k.half_extents dir _ (ap (λ (f : Fields). f.vertices) written) exact;
+      corners = λ g. subst (λ (f : Fields). AroundFace k.half_extents dir f.vertices) {x = cuboid_fields k.half_extents dir} (sym written) (around k.half_extents dir k.sized);
       exact = λ g. exact;
-      numbers = λ g. supports k.half_extents dir _ k.sized written exact;
+      numbers = λ g. subst (Supporting dir) {x = cuboid_fields k.half_extents dir} (sym written) (supports k.half_extents dir k.sized);
     }

@@ -3,7 +3,7 @@ use Rattle.std.proofs.Common.{refl, ap, ◌∙◌}
 use lib.Ieee.{Float}
 use Rattle.math.specs.Floats.{◌⊗◌}
 use Rattle.math.proofs.Magnitude.{to_T}
-use Rattle.shape.proofs.Cuboids.{times_side}
+use Rattle.shape.proofs.ExactCorners.{times_side}
 use Rattle.shape.proofs.cuboid.support.across.Goals as goal
 
 pub returns : goal.returns

@@ -1,7 +1,7 @@
 -- Each arm is the face across one axis, and along that axis its coordinate is exact.
 use Rattle.std.proofs.Common.{◌≡◌, [], ◌∷◌, arith, lit<, rules}
 use Rattle.shape.specs.Cuboids.{face_vertices_of}
-use Rattle.shape.proofs.Cuboids.{across_exact}
+use Rattle.shape.proofs.ExactCorners.{across_exact}
 use Rattle.shape.proofs.cuboid.support.face_vertices.Goals as goal
 
 pub returns-in-0 : goal.returns-in-0
