@@ -141,10 +141,10 @@ unfolding is_size
 put_sign true h H = opposite_sign h (and_parts _ _ H).1
 put_sign false h H = above_positive h (and_parts _ _ H).1
 
-past : (k : ℕ) → suc (suc (suc k)) < 3 → ⊥
+pub past : (k : ℕ) → suc (suc (suc k)) < 3 → ⊥
 past k l = omega arith
 
-past_four : (k : ℕ) → suc (suc (suc (suc k))) < 4 → ⊥
+pub past_four : (k : ℕ) → suc (suc (suc (suc k))) < 4 → ⊥
 past_four k l = omega arith
 
 abbrev bit : Bool → ℕ

@@ -1,5 +1,5 @@
 -- Each vertex of a cuboid's face is exactly a corner of the cuboid: a product by 1 or -1 is exact, so across the face the half extent is kept or turned.
-use Rattle.std.proofs.Common.{◌≡◌, ℕ, zero, suc, ◌<◌, Bool, true, false, cond, T, eqb, List, [], ◌∷◌, sym, refl, ◌∙◌, subst, inl, inr, arith}
+use Rattle.std.proofs.Common.{◌≡◌, ℕ, zero, suc, ◌<◌, Bool, true, false, cond, T, eqb, List, [], ◌∷◌, sym, refl, ◌∙◌, subst, inl, inr}
 use lib.Ieee.{Float, binary64, of_bits, neg, fits}
 use Rattle.std.specs.Float.{float_with_sign, is_sign_negative}
 use Rattle.std.proofs.lemmas.Bool.{cond_both, cases_Bool, eqb-true, eqb-false}
@@ -10,6 +10,7 @@ use Rattle.math.specs.declared.vector.Vector.{Vector}
 use Rattle.math.proofs.TimesOne.{times_one, times_minus_one}
 use Rattle.shape.specs.Cuboids.{main_axis_of, side_of, face_vertices_of, PlusOrMinus, on_side, Across, FaceCorner, AroundFace, ExactCorner, ExactlyAround}
 use Rattle.shape.specs.Nearness.{vertex_at}
+use Rattle.shape.proofs.Cuboids.{past, past_four}
 
 one_on_side : (b : Bool) → float_with_sign b one ≡ on_side (cond b 0 1) one
 unfolding of_bits float_with_sign neg
@@ -19,12 +20,6 @@ one_on_side false = refl
 -- the sign is 1 on the side 1, -1 on the side 0
 pub sign_on_side : (d : Float) → signed d one ≡ on_side (side_of d) one
 sign_on_side d = one_on_side (is_sign_negative d)
-
-past : (k : ℕ) → suc (suc (suc k)) < 3 → ⊥
-past k l = omega arith
-
-past_four : (k : ℕ) → suc (suc (suc (suc k))) < 4 → ⊥
-past_four k l = omega arith
 
 -- a half extent times the sign of a side is the half extent on that side
 pub times_side : (h : Float) (side : ℕ) → T (fits binary64 h) → h ⊗ on_side side one ≡ on_side side h

@@ -1,12 +1,11 @@
 -- What is read is performed, and what is not read means nothing.
 use Rattle.std.proofs.Common.{◌≡◌, true, sym, refl, ◌∙◌}
 use borrow.Author.Tests.{clash}
-use Rattle.bench.specs.Sessions.{ran, unread, meant, without_meaning}
+use Rattle.bench.specs.Sessions.{State, answered, ran, unread, meant, without_meaning}
 use Rattle.script.specs.Lines.{silent, Means, Faulty, remark, spelt, not_text, at_word}
 use Rattle.script.specs.Words.{Text}
 use Rattle.script.specs.declared.command.Command.{Command}
 use Rattle.script.specs.declared.fault.Fault.{Fault}
-use Rattle.bench.specs.Sessions.{State, answered}
 use Rattle.bench.specs.declared.answer.Answer.TheVariants.{Nothing}
 use Rattle.bench.proofs.session.Session.run_line.Goals as goal
 
