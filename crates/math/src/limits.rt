@@ -70,6 +70,7 @@ pub trait SquaredLength: Copy {
     }
 }
 
+#[tactic(auto, unfolding(crate::specs::Limits::near_one))]
 fn is_near_one(square: f64) -> bool
     ensures { result ≡ near_one square }
 {
