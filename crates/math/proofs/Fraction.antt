@@ -1,10 +1,10 @@
 -- How far along: for c ≤ a ≤ b the rounded quotient (a - c) / (b - c) is at most 1 in size, since rounding keeps the order of the two differences.
 -- A finite value is taken as a sign and a size; `dist` is the size of a difference.
-use Rattle.std.proofs.Common.{◌≡◌, ℕ, zero, suc, ◌+◌, ◌-◌, ◌*◌, ◌^◌, ◌<◌, ◌≤◌, Bool, true, false, cond, not, ◌&&◌, ◌||◌, T, eqb, ltb, ℤ, pos, negsuc, sym, refl, ap, ◌∙◌, subst, inl, inr, true≢false, le_trans, le_of_eq, le_refl, lt_of_lt_of_le, lt_irrefl, mul-le-mul_right, mul_assoc, mul_comm, add-mul, mul-le-mul_left, mul-pos, one-mul, zero-mul, mul-one, sub-add_cancel, mul_right_comm, arith, lit<, eqb→eq, pow_pos, pow-add}
-use native.Mathlib.Nat.{mul-sub}
+use Rattle.std.proofs.Common.{◌≡◌, ℕ, zero, suc, ◌+◌, ◌-◌, ◌*◌, ◌^◌, ◌<◌, ◌≤◌, Bool, true, false, cond, not, ◌&&◌, ◌||◌, T, eqb, ltb, ℤ, pos, negsuc, sym, refl, ap, ◌∙◌, subst, inl, inr, le_trans, le_of_eq, le_refl, lt_of_lt_of_le, lt_irrefl, mul-le-mul_right, mul_assoc, mul_comm, add-mul, mul-le-mul_left, mul-pos, one-mul, zero-mul, mul-one, sub-add_cancel, mul_right_comm, arith, lit<, eqb→eq, pow_pos, pow-add}
+use native.Mathlib.Nat.{mul-sub, eq-zero-or-pos}
 use lib.Ieee.{Float, nan, inf, fin, binary64, below, level, low, up, down, round, neg, add, sub, sum, lt, le, eq, is_nan, fits}
 use lib.Ieee.Fits.{down_pos}
-use lib.Ieee.Positive.{num, den, den_pos}
+use lib.Ieee.Positive.{num, den, den_pos, first_pos}
 use lib.Ieee.Scale.{round_same}
 use lib.Ieee.Bits.{is_true}
 use Rattle.std.specs.Float.{float_with_sign, NotNan}
@@ -47,27 +47,21 @@ dist_mono true x false y true z h k = omega arith
 dist_mono true x true y false z h k = omega arith
 dist_mono true x true y true z h k = omega arith
 
-scale_le : (x y k : ℕ) → x ≤ y → x * k ≤ y * k
-scale_le x y k h = mul-le-mul_right k h
-
-scale_zero : (x k : ℕ) → x ≡ 0 → x * k ≡ 0
-scale_zero x k h = ap (λ (z : ℕ). z * k) h ∙ zero-mul k
-
-pub at_most_scale : (s : Bool) (x : ℕ) (t : Bool) (y k : ℕ) → AtMost s x t y → AtMost s (x * k) t (y * k)
-at_most_scale false x false y k h = scale_le x y k h
-at_most_scale false x true y k h = (scale_zero x k h.0, scale_zero y k h.1)
+at_most_scale : (s : Bool) (x : ℕ) (t : Bool) (y k : ℕ) → AtMost s x t y → AtMost s (x * k) t (y * k)
+at_most_scale false x false y k h = mul-le-mul_right k h
+at_most_scale false x true y k h = (rw h.0 (zero-mul k), rw h.1 (zero-mul k))
 at_most_scale true x false y k h = tt
-at_most_scale true x true y k h = scale_le y x k h
+at_most_scale true x true y k h = mul-le-mul_right k h
 
 sub_mul : (x y k : ℕ) → (x - y) * k ≡ x * k - y * k
-sub_mul x y k = mul_comm (x - y) k ∙ mul-sub k x y ∙ ap (λ (z : ℕ). z - k * y) (mul_comm k x) ∙ ap (λ (z : ℕ). x * k - z) (mul_comm k y)
+sub_mul x y k = rw (mul_comm (x - y) k, mul-sub k x y, mul_comm k x, mul_comm k y)
 
 dist_scale : (s : Bool) (x : ℕ) (t : Bool) (y k : ℕ) → dist s (x * k) t (y * k) ≡ dist s x t y * k
 unfolding dist absdiff
-dist_scale false x false y k = ap (λ (z : ℕ). z + (y * k - x * k)) (sym (sub_mul x y k)) ∙ ap (λ (z : ℕ). (x - y) * k + z) (sym (sub_mul y x k)) ∙ sym (add-mul (x - y) (y - x) k)
-dist_scale true x true y k = ap (λ (z : ℕ). z + (y * k - x * k)) (sym (sub_mul x y k)) ∙ ap (λ (z : ℕ). (x - y) * k + z) (sym (sub_mul y x k)) ∙ sym (add-mul (x - y) (y - x) k)
-dist_scale false x true y k = sym (add-mul x y k)
-dist_scale true x false y k = sym (add-mul x y k)
+dist_scale false x false y k = simp (add-mul, sub_mul)
+dist_scale true x true y k = simp (add-mul, sub_mul)
+dist_scale false x true y k = simp add-mul
+dist_scale true x false y k = simp add-mul
 
 -- ---- floats by sign and size
 
@@ -194,13 +188,9 @@ quotient x (fin s n d) r e R N h =
     let q = down d in
     let P : 0 < p = subst (λ (z : Float). 0 < num z) (sym e) N in
     let small : Small x p q = small_of_within (fin false n d) x refl (subst (λ (z : Float). within z x ≡ true) (sym e) h) in
-    let some : 0 < n = positive n P in
+    let some : 0 < n = first_pos n (up d) P in
     let unit = round_same binary64 false (p * q) (p * q) 1 1 (mul-pos P (down_pos d)) (lit< tt) (mul-one (p * q) ∙ sym (one-mul (p * q))) ∙ unit_round in
     subst (λ (b : Float). within b (x ⊘ fin s n d) ≡ true) unit (small_div x (fin s n d) p q p q (down_pos d) P small (some, le_refl (p * q)))
-  where
-    positive : (n : ℕ) → 0 < n * up d → 0 < n
-    positive zero h = absurd (lt_irrefl 0 (subst (λ (z : ℕ). 0 < z) (zero-mul (up d)) h))
-    positive (suc n) h = omega arith
 
 -- ---- c ≤ a ≤ b, as floats
 
@@ -227,22 +217,14 @@ module _ (sa : Bool) (ma : ℕ) (ea : ℤ) (sb : Bool) (mb : ℕ) (eb : ℤ) (sc
       let g = gap sb mb eb sc mc ec in
       let r = round binary64 false g (down eb * down ec) in
       let e : size (b ⊖ c) ≡ r = size_difference sb mb eb sc mc ec in
-      let some : 0 < g = apart g (λ (z : g ≡ 0). true≢false (sym (level_of_dist sc (mc * up ec * down eb) sb (mb * up eb * down ec) z) ∙ n)) in
+      let some : 0 < g = elim (eq-zero-or-pos g) [ inl z ↦ no (sym n ∙ level_of_dist sc (mc * up ec * down eb) sb (mb * up eb * down ec) z) | inr p ↦ p ] in
       let R : bound r ≡ true = bounded g (down eb * down ec) e in
       let lowest = round binary64 false 1 (2 ^ low binary64) in
       let unit : within r lowest ≡ true = within_round binary64 false 1 (2 ^ low binary64) g (down eb * down ec) (pow_pos (low binary64)) (mul-pos (down_pos eb) (down_pos ec)) (le_trans (le_of_eq (one-mul (down eb * down ec))) (gap_unit sb mb eb sc mc ec F G some)) in
       let least = value_small lowest 1 (2 ^ low binary64) (num r) (den r) (power_value 0 (low binary64) (omega arith) (omega arith)) (small_of_within r lowest R unit) in
       let near = nearer sa ma ea sb mb eb sc mc ec (at_most_of_not_lt sa (ma * up ea * down ec) sc (mc * up ec * down ea) h) (at_most_of_not_lt sb (mb * up eb * down ea) sa (ma * up ea * down eb) j) in
-      quotient (a ⊖ c) (b ⊖ c) r e R (above_zero (num r) (den r) (den_pos r) least) (subst (λ (z : Float). within z (a ⊖ c) ≡ true) e near)
+      quotient (a ⊖ c) (b ⊖ c) r e R (first_pos (num r) (2 ^ low binary64) (lt_of_lt_of_le (den_pos r) (le_trans (le_of_eq (sym (one-mul (den r)))) least))) (subst (λ (z : Float). within z (a ⊖ c) ≡ true) e near)
     where
-      apart : (n : ℕ) → (n ≡ 0 → ⊥) → 0 < n
-      apart zero h = absurd (h refl)
-      apart (suc n) h = omega arith
-
-      above_zero : (x y : ℕ) → 0 < y → 1 * y ≤ x * 2 ^ low binary64 → 0 < x
-      above_zero zero y Y h = absurd (lt_irrefl 0 (lt_of_lt_of_le Y (le_trans (le_of_eq (sym (one-mul y))) (le_trans h (le_of_eq (zero-mul (2 ^ low binary64)))))))
-      above_zero (suc x) y Y h = omega arith
-
       bounded : (n d : ℕ) → size (b ⊖ c) ≡ round binary64 false n d → bound (round binary64 false n d) ≡ true
       bounded n d e =
           elim (round_cases n d) [

@@ -1,9 +1,8 @@
 -- The laws of magnitude: from bounds on the arguments of an operation to a bound on its result.
 -- A bound is itself an f64, and rounding keeps order, so the bound of a result is the same operation on the bounds.
-use Rattle.std.proofs.Common.{◌≡◌, ℕ, zero, suc, ◌+◌, ◌-◌, ◌*◌, ◌/◌, ◌%◌, ◌^◌, ◌<◌, ◌≤◌, Bool, true, false, cond, ◌&&◌, ◌||◌, T, eqb, ltb, ℤ, sym, refl, ap, ◌∙◌, subst, inl, inr, true≢false, le_trans, le_of_eq, le_refl, lt_of_lt_of_le, lt_of_le_of_lt, le_of_lt, add-le-add, lt_irrefl, mul-le-mul_right, mul_assoc, mul_comm, add-mul, mul-le-mul, lt_of_mul-lt-mul_right, eq-or-lt_of_le, mul-lt-mul_of_pos_right, mul-pos, mul_right_comm, mul_left_comm, arith, eqb→eq}
+use Rattle.std.proofs.Common.{◌≡◌, ℕ, zero, suc, ◌+◌, ◌-◌, ◌*◌, ◌/◌, ◌%◌, ◌^◌, ◌<◌, ◌≤◌, Bool, true, false, cond, ◌&&◌, ◌||◌, T, eqb, ltb, ℤ, sym, refl, ap, ◌∙◌, subst, inl, inr, true≢false, le_trans, le_of_eq, le_refl, le_of_lt, lt_irrefl, mul-le-mul_right, mul-le-mul, lt_of_mul-lt-mul_right, eq-or-lt_of_le, mul-lt-mul_of_pos_right, mul-pos, arith, eqb→eq}
 use mathlib.Core.Bool.{beq}
 use Prim.Native.Nat.{compare}
-use native.Mathlib.Nat.{mul-mul-mul_comm}
 use lib.Ieee.{Float, Format, binary64, nan, inf, fin, prec, emax, low, unlike, up, down, nearest, odd, units, round, neg, add, sub, mul, div, sum, le, lt, eq}
 use lib.Ieee as Ieee
 use lib.Ieee.Fits.{down_pos, up_pos, round_is}
@@ -108,8 +107,7 @@ small_mul (inf a) y p q r s Q S h k = absurd h
 small_mul (fin a m e) nan p q r s Q S h k = absurd k
 small_mul (fin a m e) (inf b) p q r s Q S h k = absurd k
 small_mul (fin a m e) (fin b n d) p q r s Q S h k =
-    within_round binary64 (unlike a b) (m * up e * (n * up d)) (down e * down d) (p * r) (q * s) (mul-pos (down_pos e) (down_pos d)) (mul-pos Q S)
-    (le_trans (le_of_eq (mul-mul-mul_comm (m * up e) (n * up d) q s)) (le_trans (mul-le-mul h k) (le_of_eq (mul-mul-mul_comm p (down e) r (down d)))))
+    within_round binary64 (unlike a b) (m * up e * (n * up d)) (down e * down d) (p * r) (q * s) (mul-pos (down_pos e) (down_pos d)) (mul-pos Q S) (omega (arith, mul-le-mul h k))
 
 -- a sum or a difference of two sizes is at most their sum
 sum_within : (a b : Bool) (x y c p q : ℕ) → 0 < c → 0 < q → (x + y) * q ≤ p * c → within (round binary64 false p q) (sum binary64 a x b y c) ≡ true
@@ -128,10 +126,7 @@ sum_within a b x y c p q C Q h = by_sign (beq a b)
     by_sign false = by_order (ltb x y)
 
 cross_sum : (x dx p q y dy r s : ℕ) → x * q ≤ p * dx → y * s ≤ r * dy → (x * dy + y * dx) * (q * s) ≤ (p * s + r * q) * (dx * dy)
-cross_sum x dx p q y dy r s h k =
-    let a : x * dy * (q * s) ≤ p * s * (dx * dy) = simp (mul_assoc, mul_comm, mul_left_comm) (simp (mul_assoc, mul_comm) at (mul-le-mul_right (dy * s) h)) in
-    let b : y * dx * (q * s) ≤ r * q * (dx * dy) = simp (mul_assoc, mul_comm, mul_left_comm) (simp (mul_assoc, mul_comm, mul_left_comm) at (mul-le-mul_right (dx * q) k)) in
-    le_trans (le_of_eq (add-mul (x * dy) (y * dx) (q * s))) (le_trans (add-le-add a b) (le_of_eq (sym (add-mul (p * s) (r * q) (dx * dy)))))
+cross_sum x dx p q y dy r s h k = omega (arith, mul-le-mul_right (dy * s) h, mul-le-mul_right (dx * q) k)
 
 small_add : (x y : Float) (p q r s : ℕ) → 0 < q → 0 < s → Small x p q → Small y r s → within (round binary64 false (p * s + r * q) (q * s)) (add binary64 x y) ≡ true
 unfolding add
@@ -161,7 +156,7 @@ small_div (fin a m e) (fin b n d) p q r s Q R h k = go (eqb n 0) (eqb→eq n 0)
     value = round binary64 (unlike a b) (m * up e * down d) (n * up d * down e)
 
     cross : m * up e * down d * (r * q) ≤ p * s * (n * up d * down e)
-    cross = simp (mul_assoc, mul_comm, mul_left_comm) (simp (mul_assoc, mul_comm, mul_left_comm) at (mul-le-mul h k.1))
+    cross = omega (arith, mul-le-mul h k.1)
 
     go : (t : Bool) → (T t → n ≡ 0) → within (round binary64 false (p * s) (r * q)) (cond t (cond (eqb m 0) nan (inf (unlike a b))) value) ≡ true
     go true z = absurd (lt_irrefl 0 (subst (λ (i : ℕ). 0 < i) (z tt) k.0))
@@ -218,8 +213,8 @@ difference_within b x y B own X Y h k =
         let s = sub binary64 (fin false m e) (fin false n d) in
         let p = num b in
         let q = den b in
-        let x : m * up e * down d * q ≤ p * (down e * down d) = simp (mul_assoc, mul_comm, mul_left_comm) (simp (mul_assoc, mul_comm) at (mul-le-mul_right (down d) (small_of_within b (fin false m e) B g))) in
-        let y : n * up d * down e * q ≤ p * (down e * down d) = simp (mul_assoc, mul_comm, mul_left_comm) (simp (mul_assoc, mul_comm) at (mul-le-mul_right (down e) (small_of_within b (fin false n d) B j))) in
+        let x : m * up e * down d * q ≤ p * (down e * down d) = omega (arith, mul-le-mul_right (down d) (small_of_within b (fin false m e) B g)) in
+        let y : n * up d * down e * q ≤ p * (down e * down d) = omega (arith, mul-le-mul_right (down e) (small_of_within b (fin false n d) B j)) in
         subst (λ (z : Float). within z s ≡ true) own (apart_within (m * up e * down d) (n * up d * down e) (down e * down d) p q (mul-pos (down_pos e) (down_pos d)) (den_pos b) x y)
 
 -- ---- strictly below a larger bound
@@ -236,9 +231,7 @@ below_of_within b l x B h w = bound_is (λ b'. lt b' l ≡ true → Small x (num
     below_written n d (fin true j i) (fin s m e) g k = no g
     below_written n d (fin false j i) (fin s m e) g k =
         let cross : m * up e * down i * down d < j * up i * down e * down d =
-        lt_of_le_of_lt
-        (le_trans (le_of_eq (mul_right_comm (m * up e) (down i) (down d))) (le_trans (mul-le-mul_right (down i) k) (le_of_eq (mul_right_comm (n * up d) (down e) (down i)))))
-        (lt_of_lt_of_le (mul-lt-mul_of_pos_right (ltb-true (n * up d * down i) (j * up i * down d) g) (down_pos e)) (le_of_eq (mul_right_comm (j * up i) (down d) (down e)))) in
+        omega (arith, mul-le-mul_right (down i) k, mul-lt-mul_of_pos_right (ltb-true (n * up d * down i) (j * up i * down d) g) (down_pos e)) in
         lt-ltb (m * up e * down i) (j * up i * down e) (lt_of_mul-lt-mul_right (down d) cross)
 
 -- one rounds to itself
