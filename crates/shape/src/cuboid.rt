@@ -5,6 +5,7 @@ ghost use Rattle.shape.specs.Sizes.{are_sizes};
 use crate::cuboid::face::{Axis, Face, Side};
 use crate::feature_id::{FeatureKind, PackedFeatureId};
 use crate::polygonal_feature3d::PolygonalFeature;
+use math::limits::Given;
 use math::refusal::Refusal;
 use math::vector::Vector;
 use math::wops;

@@ -1,5 +1,5 @@
 -- A place that is neither the first nor the second is the third.
-use Rattle.std.proofs.Common.{◌≡◌, ◌≢◌, arith}
+use Rattle.std.proofs.Common.{◌≡◌, arith}
 use Rattle.shape.specs.Cuboids.{main_axis_of}
 use Rattle.shape.proofs.Cuboids.{axis_below}
 use Rattle.shape.proofs.cuboid.face.Axis.main.Goals as goal
