@@ -97,25 +97,20 @@ impl EdgePair<'_> {
         requires { clip_near clip ≡ true }
         ensures { seen result ≡ clip_contact self.now.flipped D.ContactData.initial self.now.pos12.now (fields self.now.face1.now) self.now.sep_axis1 (fields self.now.face2.now) clip }
     {
+        // The id of an edge's first vertex, of the edge, or of its second vertex.
+        let feature_at = |face: &PolygonalFeature, id: usize| match id {
+            0 => face.vids[0],
+            1 => face.eids[0],
+            _ => face.vids[1],
+        };
         TrackedContact::flipped(
             clip.0,
             self.pos12.inverse_transform_point(clip.1),
-            feature_at_clip(self.face1, clip.2),
-            feature_at_clip(self.face2, clip.3),
+            feature_at(self.face1, clip.2),
+            feature_at(self.face2, clip.3),
             clip.1.sub(clip.0).dot(self.sep_axis1),
             self.flipped,
         )
-    }
-}
-
-// The id of an edge's first vertex, of the edge, or of its second vertex.
-fn feature_at_clip(face: &PolygonalFeature, id: usize) -> PackedFeatureId
-    ensures { result ≡ feature_at (fields face.now) id }
-{
-    match id {
-        0 => face.vids[0],
-        1 => face.eids[0],
-        _ => face.vids[1],
     }
 }
 
@@ -139,8 +134,7 @@ fn projected_tangent(basis: (Vector, Vector), edge: (Vector, Vector)) -> Option<
 fn are_crossing(tangent1: Option<Vector2>, tangent2: Option<Vector2>) -> bool
     ensures { result ≡ crossing tangent1 tangent2 }
 {
-    match (tangent1, tangent2) {
-        (Some(t1), Some(t2)) => t1.dot(t2).abs() < COS_FRAC_PI_8,
-        _ => false,
-    }
+    tangent1
+        .zip(tangent2)
+        .is_some_and(|(t1, t2)| t1.dot(t2).abs() < COS_FRAC_PI_8)
 }
