@@ -150,7 +150,7 @@ pub fn clip_segment_segment(
 ) -> Result<Option<(ClippingPoints, ClippingPoints)>, Refusal>
     ensures { told result ≡ clipping seg1 seg2 }
 {
-    if !(seg1.0.is_given() & seg1.1.is_given() & seg2.0.is_given() & seg2.1.is_given()) {
+    if !(seg1.is_given() & seg2.is_given()) {
         return Err(Refusal::NumberOutOfRange);
     }
     clip(seg1, seg2)
