@@ -63,9 +63,13 @@ point2_items p = Number p.x ∷ Number p.y ∷ []
 abbrev pub segment2_items : List Vector2 → List Item
 segment2_items ps = point2_items (point_at ps 0) ++ point2_items (point_at ps 1)
 
+-- what is spelt only if it is there
+abbrev pub optional_items : {A : Type 0} → (A → List Item) → Option A → List Item
+optional_items items None = []
+optional_items items (Some a) = items a
+
 abbrev pub hint_items : Option Vector → List Item
-hint_items None = []
-hint_items (Some v) = vector_items v
+hint_items = optional_items vector_items
 
 abbrev pub vectors_items : List Vector → List Item
 vectors_items vs = vector_items (vertex_at vs 0) ++ (vector_items (vertex_at vs 1) ++ (vector_items (vertex_at vs 2) ++ vector_items (vertex_at vs 3)))
@@ -88,6 +92,9 @@ abbrev pub kind_name : IdKind → Text
 kind_name Vertex = codes "vertex"
 kind_name Edge = codes "edge"
 kind_name Face = codes "face"
+
+abbrev pub kind_items : IdKind → List Item
+kind_items k = Says (kind_name k) ∷ []
 
 -- ---- the commands
 
