@@ -15,9 +15,9 @@ use Rattle.math.proofs.Signs.{sign_product}
 use Rattle.math.proofs.Magnitude.{no, mul_within, neg_within}
 use Rattle.math.proofs.UnitMagnitude.{limit_bound}
 use Rattle.math.proofs.VectorMagnitude.{coordinates}
-use Rattle.shape.specs.Cuboids.{main_axis_of, side_of, face_vertices_of, face_corners, corner_at, vertex_codes_of, joining, edge_codes_of, four_codes, cuboid_fields, PlusOrMinus, FaceCorner, AroundFace, next, Neighbours, Supporting}
+use Rattle.shape.specs.Cuboids.{main_axis_of, side_of, face_vertices_of, face_corners, corner_at, vertex_codes_of, joining, edge_codes_of, cuboid_fields, PlusOrMinus, FaceCorner, AroundFace, next, Neighbours, Supporting}
 use Rattle.shape.specs.Features.{unknown}
-use Rattle.shape.specs.Ids.{packed, vertex_header, edge_header, face_header}
+use Rattle.shape.specs.Ids.{packed, four_codes, vertex_header, edge_header, face_header}
 use Rattle.shape.specs.Nearness.{vertex_limit, vertex_at, all_within, near_all}
 use Rattle.shape.specs.Sizes.{is_size, are_sizes}
 use Rattle.shape.proofs.Near.{given_near, size_given, point}

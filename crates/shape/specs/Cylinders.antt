@@ -46,7 +46,7 @@ side hh r az = record {
   vids = four_ids vertex_header 1 11 11 11;
   eids = four_ids edge_header 0 0 0 0;
   fid = packed face_header 0;
-  count = 2;
+  num_vertices = 2;
 }
 
 -- A cap is a square on the rim, its first vertex at the azimuth and each next one a quarter turn on.
@@ -65,7 +65,7 @@ bottom y r az = record {
   vids = four_ids vertex_header 1 3 5 7;
   eids = four_ids edge_header 2 4 6 8;
   fid = packed face_header 9;
-  count = 4;
+  num_vertices = 4;
 }
 
 -- The top cap has ten more throughout.
@@ -75,7 +75,7 @@ top y r az = record {
   vids = four_ids vertex_header 11 13 15 17;
   eids = four_ids edge_header 12 14 16 18;
   fid = packed face_header 19;
-  count = 4;
+  num_vertices = 4;
 }
 
 abbrev pub half : Float
@@ -109,13 +109,13 @@ quarter_turned v = record { x = opposite v.z; y = v.y; z = v.x }
 
 -- from the lower rim up to the upper one
 pub record SegmentAt (hh r : Float) (az : Vector2) (f : Fields) : Type 0 where
-  pub two_vertices : f.count ≡ 2
+  pub two_vertices : f.num_vertices ≡ 2
   pub lower : vertex_at f.vertices 0 ≡ rim_point (opposite hh) r az
   pub upper : vertex_at f.vertices 1 ≡ rim_point hh r az
 
 -- on one rim, each vertex a quarter turn from the one before
 pub record SquareAt (y r : Float) (az : Vector2) (f : Fields) : Type 0 where
-  pub four_vertices : f.count ≡ 4
+  pub four_vertices : f.num_vertices ≡ 4
   pub first : vertex_at f.vertices 0 ≡ rim_point y r az
   pub next : (i : ℕ) → i < 3 → vertex_at f.vertices (suc i) ≡ quarter_turned (vertex_at f.vertices i)
 

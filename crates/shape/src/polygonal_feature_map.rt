@@ -10,7 +10,7 @@ ghost use Rattle.shape.specs.Cylinders.{azimuth, side, cap, cylinder_fields, cyl
 
 use crate::cuboid::Cuboid;
 use crate::cylinder::Cylinder;
-use crate::feature_id::PackedFeatureId;
+use crate::feature_id::{FeatureKind, PackedFeatureId};
 use crate::polygonal_feature3d::PolygonalFeature;
 use math::refusal::Refusal;
 use math::vector::Vector;
@@ -106,9 +106,9 @@ impl Cylinder {
         let upper = Vector::new(dir2.x * self.radius, self.half_height, dir2.y * self.radius);
         *out_features = PolygonalFeature {
             vertices: [lower, upper, Vector::ZERO, Vector::ZERO],
-            vids: PackedFeatureId::vertices([1, 11, 11, 11]),
-            eids: PackedFeatureId::edges([0, 0, 0, 0]),
-            fid: PackedFeatureId::packed_face(0),
+            vids: PackedFeatureId::small_ids(FeatureKind::Vertex, [1, 11, 11, 11]),
+            eids: PackedFeatureId::small_ids(FeatureKind::Edge, [0, 0, 0, 0]),
+            fid: PackedFeatureId::small(FeatureKind::Face, 0),
             num_vertices: 2,
         };
     }
@@ -127,17 +127,17 @@ impl Cylinder {
         if dir.y < 0.0 {
             *out_features = PolygonalFeature {
                 vertices,
-                vids: PackedFeatureId::vertices([1, 3, 5, 7]),
-                eids: PackedFeatureId::edges([2, 4, 6, 8]),
-                fid: PackedFeatureId::packed_face(9),
+                vids: PackedFeatureId::small_ids(FeatureKind::Vertex, [1, 3, 5, 7]),
+                eids: PackedFeatureId::small_ids(FeatureKind::Edge, [2, 4, 6, 8]),
+                fid: PackedFeatureId::small(FeatureKind::Face, 9),
                 num_vertices: 4,
             };
         } else {
             *out_features = PolygonalFeature {
                 vertices,
-                vids: PackedFeatureId::vertices([11, 13, 15, 17]),
-                eids: PackedFeatureId::edges([12, 14, 16, 18]),
-                fid: PackedFeatureId::packed_face(19),
+                vids: PackedFeatureId::small_ids(FeatureKind::Vertex, [11, 13, 15, 17]),
+                eids: PackedFeatureId::small_ids(FeatureKind::Edge, [12, 14, 16, 18]),
+                fid: PackedFeatureId::small(FeatureKind::Face, 19),
                 num_vertices: 4,
             };
         }

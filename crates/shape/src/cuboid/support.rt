@@ -1,5 +1,5 @@
 // The face of a cuboid that supports a direction.
-ghost use Rattle.std.specs.Prelude.{◌≡◌, ℕ, ◌^◌, ◌<◌, true, if◌then◌else◌, None, slice_index};
+ghost use Rattle.std.specs.Prelude.{◌≡◌, ℕ, ◌<◌, true, if◌then◌else◌, None};
 ghost use Rattle.std.specs.Float.Ieee as Ieee;
 ghost use Rattle.math.specs.Floats.{◌⊗◌, zero, one};
 ghost use Rattle.math.specs.Refusals.{told};
@@ -9,7 +9,7 @@ ghost use Rattle.shape.specs.Supports.{direction_given, supporting};
 ghost use Rattle.shape.specs.Cuboids.{main_axis_of, on_side, Across, AroundFace, ExactlyAround, Supporting, face_vertices_of, vertex_codes_of, edge_codes_of, cuboid_fields};
 
 use crate::cuboid::Cuboid;
-use crate::feature_id::PackedFeatureId;
+use crate::feature_id::{FeatureKind, PackedFeatureId};
 use crate::polygonal_feature3d::PolygonalFeature;
 use math::refusal::Refusal;
 use math::vector::Vector;
@@ -34,7 +34,7 @@ fn component(v: Vector, i: usize) -> f64
 }
 
 // The Rust casts the sign, which is 1 or -1, to a whole number; here a test tells the two apart.
-fn sign_index(sign: f64) -> u32
+fn sign_index(sign: f64) -> u8
     ensures value { result ≡ (if Ieee.lt zero sign then 1 else 0) }
     ensures small { result < 2 }
 {
@@ -86,10 +86,9 @@ fn face_vertices(he: Vector, imax: usize, sign: f64) -> [Vector; 4]
 }
 
 // Each vertex has an even code, twice its corner's number.
-fn vertex_codes(imax: usize, sign_index: u32) -> [u32; 4]
+fn vertex_codes(imax: usize, sign_index: u8) -> [u8; 4]
     requires { (imax < 3) × (sign_index < 2) }
-    ensures value { result ≡ vertex_codes_of imax sign_index }
-    ensures small { (slice_index result 0 < 2 ^ 30) × ((slice_index result 1 < 2 ^ 30) × ((slice_index result 2 < 2 ^ 30) × (slice_index result 3 < 2 ^ 30))) }
+    ensures { result ≡ vertex_codes_of imax sign_index }
 {
     match imax {
         0 => {
@@ -122,10 +121,9 @@ fn vertex_codes(imax: usize, sign_index: u32) -> [u32; 4]
     }
 }
 
-fn edge_codes(imax: usize, sign_index: u32) -> [u32; 4]
+fn edge_codes(imax: usize, sign_index: u8) -> [u8; 4]
     requires { (imax < 3) × (sign_index < 2) }
-    ensures value { result ≡ edge_codes_of imax sign_index }
-    ensures small { (slice_index result 0 < 2 ^ 30) × ((slice_index result 1 < 2 ^ 30) × ((slice_index result 2 < 2 ^ 30) × (slice_index result 3 < 2 ^ 30))) }
+    ensures { result ≡ edge_codes_of imax sign_index }
 {
     match imax {
         0 => {
@@ -169,9 +167,9 @@ impl Cuboid {
         let sign_index = sign_index(sign);
         *out_feature = PolygonalFeature {
             vertices: face_vertices(he, imax, sign),
-            vids: PackedFeatureId::vertices(vertex_codes(imax, sign_index)),
-            eids: PackedFeatureId::edges(edge_codes(imax, sign_index)),
-            fid: PackedFeatureId::packed_face(imax as u32 + sign_index * 3 + 10),
+            vids: PackedFeatureId::small_ids(FeatureKind::Vertex, vertex_codes(imax, sign_index)),
+            eids: PackedFeatureId::small_ids(FeatureKind::Edge, edge_codes(imax, sign_index)),
+            fid: PackedFeatureId::small(FeatureKind::Face, imax as u8 + sign_index * 3 + 10),
             num_vertices: 4,
         };
     }

@@ -9,8 +9,8 @@ unfolding face_corners vertex_codes_of
 returns-in-0 c =
     let i = c.in-0.is in
     elim (below_two c.args.sign_index c.requires.1) [
-      | inl e ↦ record { value = simp (e, i); small = simp e (omega arith, (omega arith, (omega arith, omega arith))) }
-      | inr e ↦ record { value = simp (e, i); small = simp e (omega arith, (omega arith, (omega arith, omega arith))) }
+      | inl e ↦ simp (e, i)
+      | inr e ↦ simp (e, i)
     ]
 
 pub returns-in-1 : goal.returns-in-1
@@ -18,8 +18,8 @@ unfolding face_corners vertex_codes_of
 returns-in-1 c =
     let i = c.in-1.is in
     elim (below_two c.args.sign_index c.requires.1) [
-      | inl e ↦ record { value = simp (e, i); small = simp e (omega arith, (omega arith, (omega arith, omega arith))) }
-      | inr e ↦ record { value = simp (e, i); small = simp e (omega arith, (omega arith, (omega arith, omega arith))) }
+      | inl e ↦ simp (e, i)
+      | inr e ↦ simp (e, i)
     ]
 
 pub returns-in_default : goal.returns-in_default
@@ -27,6 +27,6 @@ unfolding face_corners vertex_codes_of
 returns-in_default c =
     let i : c.args.imax ≡ 2 = omega arith in
     elim (below_two c.args.sign_index c.requires.1) [
-      | inl e ↦ record { value = simp (e, i); small = simp e (omega arith, (omega arith, (omega arith, omega arith))) }
-      | inr e ↦ record { value = simp (e, i); small = simp e (omega arith, (omega arith, (omega arith, omega arith))) }
+      | inl e ↦ simp (e, i)
+      | inr e ↦ simp (e, i)
     ]
