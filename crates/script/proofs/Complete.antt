@@ -17,9 +17,9 @@ use Rattle.script.specs.declared.command.Command.{Command}
 use Rattle.script.specs.declared.command.Command.TheVariants.{Remark, Shape, Support, Make, Transform, Show, Pack, Clip, Lines, Sqrt}
 use Rattle.script.specs.declared.command.Form.{Form}
 use Rattle.script.specs.declared.command.Form.TheVariants.{Cylinder, Cuboid}
-use Rattle.script.specs.declared.command.IdKind.{IdKind}
-use Rattle.script.specs.declared.command.IdKind.TheVariants.{Vertex, Edge, Face}
-use Rattle.script.specs.declared.command.Row.{Row}
+use Rattle.shape.specs.declared.feature_id.FeatureKind.{FeatureKind}
+use Rattle.shape.specs.declared.feature_id.FeatureKind.TheVariants.{Vertex, Edge, Face}
+use Rattle.shape.specs.declared.polygonal_feature3d.FeatureRow.{FeatureRow}
 use Rattle.script.specs.declared.command.Which.{Which}
 use Rattle.script.specs.declared.command.Which.TheVariants.{First, Second}
 use Rattle.script.specs.declared.fault.Fault.{Fault}
@@ -125,7 +125,7 @@ vectors vs = vector (vertex_at vs 0) & vector (vertex_at vs 1) & vector (vertex_
 ids : (is : List PackedFeatureId) → Passes (ids_items is) (times 4 past_word)
 ids is = word (get_or is 0 unknown).0 & word (get_or is 1 unknown).0 & word (get_or is 2 unknown).0 & word (get_or is 3 unknown).0 & none
 
-row : (r : Row) → Passes (row_items r) past_row
+row : (r : FeatureRow) → Passes (row_items r) past_row
 row r = place r.num_vertices & vectors r.vertices & ids r.vids & ids r.eids & word r.fid.0
 
 -- a hint stands last
@@ -143,7 +143,7 @@ form : (f : Form) → Ends (form_items f) (by_name past_form)
 form (Cylinder hh r) = named (codes "cylinder") _ past_form (ending (number hh & number r & none))
 form (Cuboid he) = named (codes "cuboid") _ past_form (ending (vector he))
 
-kind : (k : IdKind) → Passes (kind_items k) (by_name past_kind)
+kind : (k : FeatureKind) → Passes (kind_items k) (by_name past_kind)
 kind Vertex = naming (codes "vertex") past_kind none
 kind Edge = naming (codes "edge") past_kind none
 kind Face = naming (codes "face") past_kind none

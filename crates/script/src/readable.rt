@@ -4,7 +4,7 @@ ghost use Rattle.std.specs.List.{flat_map};
 ghost use Rattle.script.specs.Grammar.{Chosen, Number, Word, Place, id_item, optional_items, vector_items, pose_items, point2_items, row_items};
 ghost use Rattle.script.specs.Readings.{past_ordinal, past_number, past_word, past_place, past_both, times, unless_ended, past_vector, past_pose, past_point2, past_row};
 
-use crate::command::{Row, Which};
+use crate::command::Which;
 use crate::fault::Fault;
 use crate::numbers;
 use crate::words::{Readable, Words};
@@ -12,6 +12,7 @@ use math::pose::{Pose, Rotation};
 use math::vector::Vector;
 use math::vector2::Vector2;
 use shape::feature_id::PackedFeatureId;
+use shape::polygonal_feature3d::FeatureRow;
 
 impl Readable for f64 {
     ghost items = { λ x. Number x ∷ [] };
@@ -155,14 +156,14 @@ impl Readable for PackedFeatureId {
     }
 }
 
-impl Readable for Row {
+impl Readable for FeatureRow {
     ghost items = { row_items };
 
     ghost past = { past_row };
 
-    fn read(words: &mut Words<'_>) -> Result<Row, Fault> {
+    fn read(words: &mut Words<'_>) -> Result<FeatureRow, Fault> {
         let count: u64 = words.read()?;
-        Ok(Row {
+        Ok(FeatureRow {
             num_vertices: count as usize,
             vertices: words.read()?,
             vids: words.read()?,

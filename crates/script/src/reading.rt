@@ -7,9 +7,10 @@ ghost use Rattle.script.specs.Lines.{silent, Means, Faulty, Alike};
 ghost use Rattle.script.specs.Readings.{Took, past_command, past_form, past_kind, past_line, by_name};
 ghost use Rattle.script.specs.Words.{words, coming};
 
-use crate::command::{Command, Form, IdKind};
+use crate::command::{Command, Form};
 use crate::fault::Fault;
 use crate::words::{Readable, Words};
+use shape::feature_id::FeatureKind;
 
 // What is read is what the line means, and nothing else is; and a line that means a command is read.
 pub fn read_command(line: &[u8]) -> Result<Command, Fault>
@@ -93,16 +94,16 @@ impl Readable for Form {
     }
 }
 
-impl Readable for IdKind {
+impl Readable for FeatureKind {
     ghost items = { kind_items };
 
     ghost past = { by_name past_kind };
 
-    fn read(words: &mut Words<'_>) -> Result<IdKind, Fault> {
+    fn read(words: &mut Words<'_>) -> Result<FeatureKind, Fault> {
         match words.expected()? {
-            "vertex" => Ok(IdKind::Vertex),
-            "edge" => Ok(IdKind::Edge),
-            "face" => Ok(IdKind::Face),
+            "vertex" => Ok(FeatureKind::Vertex),
+            "edge" => Ok(FeatureKind::Edge),
+            "face" => Ok(FeatureKind::Face),
             _ => Err(Fault::UnknownCommand),
         }
     }

@@ -3,7 +3,7 @@ use Rattle.std.proofs.Common.{◌≡◌, [], ◌∷◌, length, arith}
 use Rattle.shape.specs.Features.{unknown}
 use Rattle.script.specs.Grammar.{vector_items, id_item}
 use Rattle.script.proofs.Parts.{read, took, ◌&◌, spelt_as, four}
-use Rattle.script.proofs.readable.RowReadable.read.Goals as goal
+use Rattle.script.proofs.readable.FeatureRowReadable.read.Goals as goal
 
 pub returns : goal.returns
 returns c =
