@@ -22,22 +22,16 @@ pub fn read_command(line: &[u8]) -> Result<Command, Fault>
     if is_silent(line) {
         return Ok(Command::Remark);
     }
-    match std::str::from_utf8(line) {
-        Ok(text) => read_text(text),
-        Err(_) => Err(Fault::NotText),
-    }
+    read_text(std::str::from_utf8(line)?)
 }
 
 // Nothing but spaces, or a first word that begins with `#`.
 fn is_silent(line: &[u8]) -> bool
     ensures { result ≡ silent line.now }
 {
-    for byte in line {
-        if *byte != b' ' {
-            return *byte == b'#';
-        }
-    }
-    true
+    line.iter()
+        .find(|byte| **byte != b' ')
+        .is_none_or(|byte| *byte == b'#')
 }
 
 fn read_text(text: &str) -> Result<Command, Fault>
