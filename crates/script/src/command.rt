@@ -6,10 +6,10 @@ use shape::feature_id::FeatureKind;
 use shape::polygonal_feature3d::FeatureRow;
 
 // The shape and the feature that a command means.
-#[derive(Clone, Copy)]
+#[derive(Clone, Copy, Debug, PartialEq, Eq)]
 pub enum Which {
-    First,
-    Second,
+    First = 0,
+    Second = 1,
 }
 
 // A shape's kind and sizes as given.
