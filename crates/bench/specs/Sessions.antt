@@ -21,9 +21,9 @@ use Rattle.script.specs.declared.command.Command.{Command}
 use Rattle.script.specs.declared.command.Command.TheVariants.{Remark, Shape, Support, Make, Transform, Show, Pack, Clip, Lines, Sqrt}
 use Rattle.script.specs.declared.command.Form.{Form}
 use Rattle.script.specs.declared.command.Form.TheVariants as FormOf
-use Rattle.script.specs.declared.command.IdKind.{IdKind}
-use Rattle.script.specs.declared.command.IdKind.TheVariants.{Vertex, Edge, Face}
-use Rattle.script.specs.declared.command.Row.{Row}
+use Rattle.shape.specs.declared.feature_id.FeatureKind.{FeatureKind}
+use Rattle.shape.specs.declared.feature_id.FeatureKind.TheVariants.{Vertex, Edge, Face}
+use Rattle.shape.specs.declared.polygonal_feature3d.FeatureRow.{FeatureRow}
 use Rattle.script.specs.declared.command.Which.{Which}
 use Rattle.script.specs.declared.command.Which.TheVariants.{First, Second}
 use Rattle.script.specs.declared.fault.Fault.{Fault}
@@ -100,13 +100,13 @@ abbrev pub support_left : Option Form → Vector → Option Vector → Fields �
 support_left None dir hint old = old
 support_left (Some f) dir hint old = cond (direction_given dir hint) (supported f dir hint) old
 
-abbrev pub row_fields : Row → Fields
+abbrev pub row_fields : FeatureRow → Fields
 row_fields r = record { vertices = r.vertices; vids = r.vids; eids = r.eids; fid = r.fid; num_vertices = r.num_vertices }
 
-abbrev pub fields_row : Fields → Row
+abbrev pub fields_row : Fields → FeatureRow
 fields_row f = record { vertices = f.vertices; vids = f.vids; eids = f.eids; fid = f.fid; num_vertices = f.num_vertices }
 
-abbrev pub header : IdKind → ℕ
+abbrev pub header : FeatureKind → ℕ
 header Vertex = vertex_header
 header Edge = edge_header
 header Face = face_header

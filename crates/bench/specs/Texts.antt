@@ -8,7 +8,7 @@ use Rattle.query.specs.Lines.{hex, pattern}
 use Rattle.script.specs.Faults.{worded}
 use Rattle.bench.specs.declared.answer.Answer.{Answer}
 use Rattle.bench.specs.declared.answer.Answer.TheVariants.{Nothing, Done, TurnedDown, Unreadable, Feature, Packed, Clipped, Meeting, Root}
-use Rattle.script.specs.declared.command.Row.{Row}
+use Rattle.shape.specs.declared.polygonal_feature3d.FeatureRow.{FeatureRow}
 
 -- the text stands behind what was there
 pub record Wrote (old text new : List ℕ) : Type 0 where
@@ -47,7 +47,7 @@ ids_text [] = []
 ids_text (i ∷ is) = (space ++ hex 8 i.0) ++ ids_text is
 
 -- how many vertices are used, the four vertices, and the nine ids
-unfoldable pub row_text : Row → List ℕ
+unfoldable pub row_text : FeatureRow → List ℕ
 row_text r =
     decimal r.num_vertices
     ++ (vectors_text r.vertices ++ (ids_text r.vids ++ (ids_text r.eids ++ (space ++ (hex 8 r.fid.0 ++ newline)))))

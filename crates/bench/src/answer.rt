@@ -1,8 +1,8 @@
 // What a command answers.
 use query::clip_segment_segment::ClippingPoints;
-use script::command::Row;
 use script::fault::Fault;
 use shape::feature_id::PackedFeatureId;
+use shape::polygonal_feature3d::FeatureRow;
 
 #[derive(Clone, Copy)]
 pub enum Answer {
@@ -11,7 +11,7 @@ pub enum Answer {
     // The number of the refusal.
     TurnedDown(u8),
     Unreadable(Fault),
-    Feature(Row),
+    Feature(FeatureRow),
     Packed(PackedFeatureId),
     Clipped(Option<(ClippingPoints, ClippingPoints)>),
     // How far along each line.

@@ -7,9 +7,9 @@ ghost use Rattle.bench.specs.Texts.{Wrote, Appended, newline, number_text, vecto
 use crate::answer::Answer;
 use math::vector::Vector;
 use query::clip_segment_segment::ClippingPoints;
-use script::command::Row;
 use script::fault::Fault;
 use shape::feature_id::PackedFeatureId;
+use shape::polygonal_feature3d::FeatureRow;
 use std::alloc::AllocError;
 use std::num::f64_to_bits_with_nan;
 
@@ -67,7 +67,7 @@ fn write_root(out: &mut String, v: f64) -> Result<(), AllocError>
     Ok(())
 }
 
-fn write_row(out: &mut String, row: Row) -> Result<(), AllocError>
+fn write_row(out: &mut String, row: FeatureRow) -> Result<(), AllocError>
     ensures { Appended out.old (row_text row) (is_ok result) out.new }
 {
     write_decimal(out, row.num_vertices as u64)?;

@@ -18,12 +18,12 @@ use math::root;
 use math::vector::Vector;
 use math::vector2::Vector2;
 use query::{clip_segment_segment, closest_points_line2d};
-use script::command::{Command, Form, IdKind, Row, Which};
+use script::command::{Command, Form, Which};
 use script::fault::Fault;
 use script::reading;
 use shape::cuboid::Cuboid;
 use shape::cylinder::Cylinder;
-use shape::feature_id::PackedFeatureId;
+use shape::feature_id::{FeatureKind, PackedFeatureId};
 use shape::polygonal_feature_map::PolygonalFeatureMap;
 use shape::polygonal_feature3d::{FeatureRow, PolygonalFeature};
 
@@ -61,7 +61,7 @@ impl Session {
             Command::Support(which, dir, hint) => self.support(which, dir, hint),
             Command::Make(which, row) => self.make(which, row),
             Command::Transform(which, pose) => self.transform(which, pose),
-            Command::Show(which) => Answer::Feature(row_of(self.feature(which))),
+            Command::Show(which) => Answer::Feature(FeatureRow::from(self.feature(which))),
             Command::Pack(kind, code) => pack(kind, code),
             Command::Clip(first, second) => clip(first, second),
             Command::Lines(first, second) => lines(first, second),
@@ -138,26 +138,12 @@ impl Session {
         done(result)
     }
 
-    fn make(&mut self, which: Which, row: Row) -> Answer
+    fn make(&mut self, which: Which, row: FeatureRow) -> Answer
         ensures answer { result ≡ replied (λ _. Done) (making (row_fields row)) }
         ensures after { state self.new ≡ with_feature which (made (row_fields row) (feature_at which (state self.old))) (state self.old) }
     {
         let mut feature = self.feature(which);
-        let Row {
-            vertices,
-            vids,
-            eids,
-            fid,
-            num_vertices,
-        } = row;
-        let given = FeatureRow {
-            vertices,
-            vids,
-            eids,
-            fid,
-            num_vertices,
-        };
-        let result = PolygonalFeature::make(given, &mut feature);
+        let result = PolygonalFeature::make(row, &mut feature);
         self.put_feature(which, feature);
         done(result)
     }
@@ -203,21 +189,6 @@ fn support_feature(
     }
 }
 
-fn row_of(feature: PolygonalFeature) -> Row
-    ensures { result ≡ fields_row (fields feature) }
-{
-    let vertices = feature.vertices;
-    let vids = feature.vids;
-    let eids = feature.eids;
-    Row {
-        vertices,
-        vids,
-        eids,
-        fid: feature.fid,
-        num_vertices: feature.num_vertices,
-    }
-}
-
 fn done(res: Result<(), Refusal>) -> Answer
     ensures { result ≡ replied (λ _. Done) (told res) }
 {
@@ -227,13 +198,13 @@ fn done(res: Result<(), Refusal>) -> Answer
     }
 }
 
-fn pack(kind: IdKind, code: u32) -> Answer
+fn pack(kind: FeatureKind, code: u32) -> Answer
     ensures { result ≡ replied Packed (packing (header kind) code) }
 {
     let result = match kind {
-        IdKind::Vertex => PackedFeatureId::vertex(code),
-        IdKind::Edge => PackedFeatureId::edge(code),
-        IdKind::Face => PackedFeatureId::face(code),
+        FeatureKind::Vertex => PackedFeatureId::vertex(code),
+        FeatureKind::Edge => PackedFeatureId::edge(code),
+        FeatureKind::Face => PackedFeatureId::face(code),
     };
     match result {
         Ok(id) => Answer::Packed(id),
