@@ -1,2 +1,4 @@
+pub mod Answers
+pub mod Solids
 pub mod Sessions
 pub mod Texts

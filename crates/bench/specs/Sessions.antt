@@ -1,26 +1,22 @@
 -- What a session holds, and what each command answers and leaves there.
-use Rattle.std.specs.Prelude.{◌≡◌, ℕ, cond, Some, None, Option}
+use Rattle.std.specs.Prelude.{◌≡◌, ℕ, cond, List, map, slice_index_or, Some, None, Option}
 use Rattle.math.specs.Floats.{root}
 use Rattle.math.specs.Refusals as Refusals
 use Rattle.math.specs.Refusals.{done, refused}
 use Rattle.math.specs.declared.vector.Vector.{Vector}
-use Rattle.shape.specs.Cuboids as Cuboids
-use Rattle.shape.specs.Cylinders as Cylinders
 use Rattle.shape.specs.Features.{Fields, fields, nothing}
 use Rattle.shape.specs.Features as Features
 use Rattle.shape.specs.Ids.{vertex_header, edge_header, face_header, packing}
 use Rattle.shape.specs.Moves.{moving, moved_or_kept}
 use Rattle.shape.specs.Supports.{direction_given, supporting}
+use Rattle.shape.specs.declared.polygonal_feature3d.PolygonalFeature.{PolygonalFeature}
 use Rattle.query.specs.Clips.{clipping}
 use Rattle.query.specs.Meeting.{meeting_answer}
-use Rattle.bench.specs.declared.answer.Answer.{Answer}
-use Rattle.bench.specs.declared.answer.Answer.TheVariants.{Nothing, Done, TurnedDown, Unreadable, Feature, Packed, Clipped, Meeting, Root}
 use Rattle.script.specs.Lines.{Means, Faulty}
 use Rattle.script.specs.Words.{Text}
 use Rattle.script.specs.declared.command.Command.{Command}
 use Rattle.script.specs.declared.command.Command.TheVariants.{Remark, Shape, Support, Make, Transform, Show, Pack, Clip, Lines, Sqrt}
 use Rattle.script.specs.declared.command.Form.{Form}
-use Rattle.script.specs.declared.command.Form.TheVariants as FormOf
 use Rattle.script.specs.declared.command.IdKind.{IdKind}
 use Rattle.script.specs.declared.command.IdKind.TheVariants.{Vertex, Edge, Face}
 use Rattle.script.specs.declared.command.Row.{Row}
@@ -28,15 +24,10 @@ use Rattle.script.specs.declared.command.Which.{Which}
 use Rattle.script.specs.declared.command.Which.TheVariants.{First, Second}
 use Rattle.script.specs.declared.fault.Fault.{Fault}
 use Rattle.script.specs.declared.fault.Fault.TheVariants.{NoShape}
+use Rattle.bench.specs.Answers.{Answer, Nothing, Done, Unreadable, Feature, Packed, Clipped, Meeting, Root, replied}
+use Rattle.bench.specs.Solids.{form, forming, supported}
 use Rattle.bench.specs.declared.session.Session.{Session}
 use Rattle.bench.specs.declared.session.Solid.{Solid}
-use Rattle.bench.specs.declared.session.Solid.TheVariants as SolidOf
-
--- a shape by its kind and sizes
-abbrev pub form : Solid → Option Form
-form SolidOf.Absent = None
-form (SolidOf.Cylinder c) = Some (FormOf.Cylinder c.half_height c.radius)
-form (SolidOf.Cuboid c) = Some (FormOf.Cuboid c.half_extents)
 
 -- the two shapes and the two features
 pub record State : Type 0 where
@@ -45,12 +36,28 @@ pub record State : Type 0 where
   pub feature1 : Fields
   pub feature2 : Fields
 
+-- what stands at a place of a session's row; past its end, nothing
+abbrev pub shape_in : List (Option Solid) → ℕ → Option Solid
+shape_in shapes k = slice_index_or shapes k None
+
+abbrev pub fields_in : List PolygonalFeature → ℕ → Fields
+fields_in features k = slice_index_or (map fields features) k nothing
+
 abbrev pub state : Session → State
-state s = record { shape1 = form s.shape1; shape2 = form s.shape2; feature1 = fields s.feature1; feature2 = fields s.feature2 }
+state s = record {
+  shape1 = form (shape_in s.shapes 0);
+  shape2 = form (shape_in s.shapes 1);
+  feature1 = fields_in s.features 0;
+  feature2 = fields_in s.features 1;
+}
 
 -- no shapes, and features with no vertices
 abbrev pub start : State
 start = record { shape1 = None; shape2 = None; feature1 = nothing; feature2 = nothing }
+
+abbrev pub place : Which → ℕ
+place First = 0
+place Second = 1
 
 abbrev pub shape_at : Which → State → Option Form
 shape_at First s = s.shape1
@@ -68,28 +75,10 @@ abbrev pub with_feature : Which → Fields → State → State
 with_feature First f s = record { shape1 = s.shape1; shape2 = s.shape2; feature1 = f; feature2 = s.feature2 }
 with_feature Second f s = record { shape1 = s.shape1; shape2 = s.shape2; feature1 = s.feature1; feature2 = f }
 
--- a value answered in its own way, a refusal by its number
-abbrev pub replied : {A : Type 0} → (A → Answer) → Refusals.Answer A → Answer
-replied view (done a) = view a
-replied view (refused n) = TurnedDown n
-
 -- the first where the call is done, the second where it is turned down
 abbrev pub if_done : {A B : Type 0} → Refusals.Answer A → B → B → B
 if_done (done a) x y = x
 if_done (refused n) x y = y
-
-abbrev pub formed : {A : Type 0} → Form → Refusals.Answer A → Refusals.Answer (Option Form)
-formed f (done a) = done (Some f)
-formed f (refused n) = refused n
-
-abbrev pub forming : Form → Refusals.Answer (Option Form)
-forming (FormOf.Cylinder hh r) = formed (FormOf.Cylinder hh r) (Cylinders.making hh r)
-forming (FormOf.Cuboid he) = formed (FormOf.Cuboid he) (Cuboids.making he)
-
--- the feature of a shape along a direction
-abbrev pub supported : Form → Vector → Option Vector → Fields
-supported (FormOf.Cylinder hh r) dir hint = Cylinders.cylinder_fields hh r dir (Cylinders.azimuth dir hint)
-supported (FormOf.Cuboid he) dir hint = Cuboids.cuboid_fields he dir
 
 -- A shape that is not there is no refusal: the line cannot be read.
 abbrev pub support_answer : Option Form → Vector → Option Vector → Answer
