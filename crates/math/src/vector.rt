@@ -1,14 +1,19 @@
 // The vector in three dimensions, with the operations that the contact code takes from it.
 ghost use Rattle.std.specs.Prelude.{◌≡◌, true};
+ghost use Rattle.math.specs.Limits.{vector_given};
 ghost use Rattle.math.specs.Vectors.{added, subtracted, negated, scaled, dotted, crossed, sizes, vector_number, largest_place, FirstLargest};
 
-#[derive(Clone, Copy)]
+use crate::limits::{Given, SquaredLength};
+
+#[derive(Clone, Copy, Debug, PartialEq)]
 pub struct Vector {
     pub x: f64,
     pub y: f64,
     pub z: f64,
 }
 
+// The coordinates are named, and each operation takes them in the order of the Rust crate that is ported: no loop over an array, no code shared with the plane.
+#[tactic(auto, unfolding(crate::specs::Vectors::added, crate::specs::Vectors::subtracted, crate::specs::Vectors::negated, crate::specs::Vectors::scaled, crate::specs::Vectors::dotted, crate::specs::Vectors::crossed, crate::specs::Vectors::sizes))]
 impl Vector {
     pub const ZERO: Vector = Vector {
         x: 0.0,
@@ -68,12 +73,6 @@ impl Vector {
         self.x * other.x + self.y * other.y + self.z * other.z
     }
 
-    pub fn length_squared(self) -> f64
-        ensures { result ≡ dotted self self }
-    {
-        self.dot(self)
-    }
-
     pub fn distance_squared(self, other: Vector) -> f64
         ensures { result ≡ dotted (subtracted self other) (subtracted self other) }
     {
@@ -101,17 +100,35 @@ impl Vector {
     }
 
     // The first place of the largest coordinate.
+    #[tactic(auto, using(crate::proofs::Largest::at_x, crate::proofs::Largest::at_y, crate::proofs::Largest::at_z_by_y, crate::proofs::Largest::at_z_by_x), unfolding(crate::specs::Vectors::largest_place))]
     pub fn max_position(self) -> usize
         ensures value { result ≡ largest_place self }
         ensures first { vector_number self ≡ true → FirstLargest self result }
     {
-        let x = self.x;
-        let y = self.y;
-        let z = self.z;
+        let Vector { x, y, z } = self;
         if y > x {
             if z > y { 2 } else { 1 }
+        } else if z > x {
+            2
         } else {
-            if z > x { 2 } else { 0 }
+            0
         }
+    }
+}
+
+impl SquaredLength for Vector {
+    ghost squared = { λ v. dotted v v };
+
+    fn length_squared(self) -> f64 {
+        self.dot(self)
+    }
+}
+
+#[tactic(auto, unfolding(crate::specs::Magnitude::vector_within))]
+impl Given for Vector {
+    ghost given = { vector_given };
+
+    fn is_given(self) -> bool {
+        self.x.is_given() & self.y.is_given() & self.z.is_given()
     }
 }

@@ -4,14 +4,17 @@ ghost use Rattle.math.specs.Limits.{limit};
 ghost use Rattle.math.specs.Magnitude.{vector2_within};
 ghost use Rattle.math.specs.Vectors2.{subtracted, scaled, dotted, perp_dotted, normalized};
 
-use crate::{limits, root};
+use crate::limits::{Given, SquaredLength};
+use crate::root;
 
-#[derive(Clone, Copy)]
+#[derive(Clone, Copy, Debug, PartialEq)]
 pub struct Vector2 {
     pub x: f64,
     pub y: f64,
 }
 
+// Both coordinates by name, as in space.
+#[tactic(auto, unfolding(crate::specs::Vectors2::subtracted, crate::specs::Vectors2::scaled, crate::specs::Vectors2::dotted, crate::specs::Vectors2::perp_dotted, crate::specs::Vectors2::reciprocal, crate::specs::Vectors2::usable, crate::specs::Vectors2::normalized))]
 impl Vector2 {
     pub fn new(x: f64, y: f64) -> Vector2
         ensures { result ≡ record { x = x; y = y } }
@@ -49,12 +52,6 @@ impl Vector2 {
         self.x * other.y - self.y * other.x
     }
 
-    pub fn length_squared(self) -> f64
-        ensures { result ≡ dotted self self }
-    {
-        self.dot(self)
-    }
-
     // None where the reciprocal of the length is not finite or not above 0.
     pub fn try_normalize(self) -> Option<Vector2>
         ensures { result ≡ normalized self }
@@ -66,11 +63,21 @@ impl Vector2 {
             None
         }
     }
+}
 
-    // Both coordinates may be given.
-    pub fn is_given(self) -> bool
-        ensures { result ≡ vector2_within limit self }
-    {
-        limits::is_given(self.x) & limits::is_given(self.y)
+impl SquaredLength for Vector2 {
+    ghost squared = { λ v. dotted v v };
+
+    fn length_squared(self) -> f64 {
+        self.dot(self)
+    }
+}
+
+#[tactic(auto, unfolding(crate::specs::Magnitude::vector2_within))]
+impl Given for Vector2 {
+    ghost given = { vector2_within limit };
+
+    fn is_given(self) -> bool {
+        self.x.is_given() & self.y.is_given()
     }
 }

@@ -12,6 +12,7 @@ use crate::cuboid::Cuboid;
 use crate::cylinder::Cylinder;
 use crate::feature_id::PackedFeatureId;
 use crate::polygonal_feature3d::PolygonalFeature;
+use math::limits::Given;
 use math::refusal::Refusal;
 use math::vector::Vector;
 use math::vector2::Vector2;

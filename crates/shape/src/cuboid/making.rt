@@ -4,6 +4,7 @@ ghost use Rattle.math.specs.Refusals.{told_as};
 ghost use Rattle.shape.specs.Cuboids.{extents_of, making};
 
 use crate::cuboid::Cuboid;
+use math::limits::Given;
 use math::refusal::Refusal;
 use math::vector::Vector;
 

@@ -11,6 +11,7 @@ ghost use Rattle.shape.specs.Cuboids.{main_axis_of, on_side, Across, AroundFace,
 use crate::cuboid::Cuboid;
 use crate::feature_id::PackedFeatureId;
 use crate::polygonal_feature3d::PolygonalFeature;
+use math::limits::Given;
 use math::refusal::Refusal;
 use math::vector::Vector;
 use math::wops;

@@ -4,14 +4,14 @@ ghost use Rattle.math.specs.Refusals.{told_as};
 ghost use Rattle.shape.specs.Cylinders.{sizes, making};
 
 use crate::cylinder::Cylinder;
-use math::limits;
+use math::limits::Given;
 use math::refusal::Refusal;
 
 impl Cylinder {
     pub fn new(half_height: f64, radius: f64) -> Result<Cylinder, Refusal>
         ensures { told_as sizes result ≡ making half_height radius }
     {
-        if !(limits::is_given(half_height) & limits::is_given(radius)) {
+        if !(half_height.is_given() & radius.is_given()) {
             return Err(Refusal::NumberOutOfRange);
         }
         if !((half_height > 0.0) & (radius > 0.0)) {

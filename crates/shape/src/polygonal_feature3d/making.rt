@@ -9,6 +9,7 @@ ghost use Rattle.shape.specs.Moves.{moving, moved_or_kept};
 
 use crate::feature_id::PackedFeatureId;
 use crate::polygonal_feature3d::PolygonalFeature;
+use math::limits::{Given, SquaredLength};
 use math::pose::Pose;
 use math::refusal::Refusal;
 use math::vector::Vector;
