@@ -8,7 +8,8 @@ use Rattle.script.specs.declared.command.Which.TheVariants.{First, Second}
 use Rattle.bench.specs.declared.session.Session.{Session}
 use Rattle.bench.specs.declared.session.Solid.{Solid}
 use Rattle.bench.specs.Solids.{solid_form, form}
-use Rattle.bench.specs.Sessions.{State, state, shape_in, shape_at, feature_at, with_feature, place}
+use Rattle.bench.specs.Sessions.{State, state, shape_in, shape_at, feature_at, with_feature}
+use Rattle.bench.specs.Places.{place}
 
 -- the session with these features
 abbrev with_row : Session → List PolygonalFeature → State

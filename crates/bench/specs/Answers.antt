@@ -4,7 +4,7 @@ use Rattle.math.specs.Refusals as Refusals
 use Rattle.math.specs.Refusals.{numbered, done, refused}
 use Rattle.shape.specs.declared.feature_id.PackedFeatureId.{PackedFeatureId}
 use Rattle.query.specs.Clips as Clips
-use Rattle.script.specs.declared.command.Row.{Row}
+use Rattle.shape.specs.Features.{Fields}
 use Rattle.script.specs.declared.fault.Fault.{Fault}
 use Rattle.bench.specs.declared.answer.Reply.{Reply}
 use Rattle.bench.specs.declared.answer.Reply.TheVariants as ReplyOf
@@ -17,7 +17,7 @@ pub data Answer : Type 0 where
   Done : Answer
   TurnedDown : ℕ → Answer
   Unreadable : Fault → Answer
-  Feature : Row → Answer
+  Feature : Fields → Answer
   Packed : PackedFeatureId → Answer
   Clipped : Option (Clips.Clip × Clips.Clip) → Answer
   Meeting : Option (Float × Float) → Answer

@@ -6,7 +6,7 @@ use Rattle.math.specs.Refusals.{done, refused}
 use Rattle.math.specs.declared.vector.Vector.{Vector}
 use Rattle.shape.specs.Features.{Fields, fields, nothing}
 use Rattle.shape.specs.Features as Features
-use Rattle.shape.specs.Ids.{vertex_header, edge_header, face_header, packing}
+use Rattle.shape.specs.Ids.{header, packing}
 use Rattle.shape.specs.Moves.{moving, moved_or_kept}
 use Rattle.shape.specs.Supports.{direction_given, supporting}
 use Rattle.shape.specs.declared.polygonal_feature3d.PolygonalFeature.{PolygonalFeature}
@@ -17,9 +17,6 @@ use Rattle.script.specs.Words.{Text}
 use Rattle.script.specs.declared.command.Command.{Command}
 use Rattle.script.specs.declared.command.Command.TheVariants.{Remark, Shape, Support, Make, Transform, Show, Pack, Clip, Lines, Sqrt}
 use Rattle.script.specs.declared.command.Form.{Form}
-use Rattle.script.specs.declared.command.IdKind.{IdKind}
-use Rattle.script.specs.declared.command.IdKind.TheVariants.{Vertex, Edge, Face}
-use Rattle.script.specs.declared.command.Row.{Row}
 use Rattle.script.specs.declared.command.Which.{Which}
 use Rattle.script.specs.declared.command.Which.TheVariants.{First, Second}
 use Rattle.script.specs.declared.fault.Fault.{Fault}
@@ -55,10 +52,6 @@ state s = record {
 abbrev pub start : State
 start = record { shape1 = None; shape2 = None; feature1 = nothing; feature2 = nothing }
 
-abbrev pub place : Which → ℕ
-place First = 0
-place Second = 1
-
 abbrev pub shape_at : Which → State → Option Form
 shape_at First s = s.shape1
 shape_at Second s = s.shape2
@@ -89,24 +82,13 @@ abbrev pub support_left : Option Form → Vector → Option Vector → Fields �
 support_left None dir hint old = old
 support_left (Some f) dir hint old = cond (direction_given dir hint) (supported f dir hint) old
 
-abbrev pub row_fields : Row → Fields
-row_fields r = record { vertices = r.vertices; vids = r.vids; eids = r.eids; fid = r.fid; num_vertices = r.num_vertices }
-
-abbrev pub fields_row : Fields → Row
-fields_row f = record { vertices = f.vertices; vids = f.vids; eids = f.eids; fid = f.fid; num_vertices = f.num_vertices }
-
-abbrev pub header : IdKind → ℕ
-header Vertex = vertex_header
-header Edge = edge_header
-header Face = face_header
-
 abbrev pub answered : Command → State → Answer
 answered Remark s = Nothing
 answered (Shape w f) s = replied (λ _. Done) (forming f)
 answered (Support w dir hint) s = support_answer (shape_at w s) dir hint
-answered (Make w row) s = replied (λ _. Done) (Features.making (row_fields row))
+answered (Make w row) s = replied (λ _. Done) (Features.making row)
 answered (Transform w pose) s = replied (λ _. Done) (moving pose (feature_at w s))
-answered (Show w) s = Feature (fields_row (feature_at w s))
+answered (Show w) s = Feature (feature_at w s)
 answered (Pack kind code) s = replied Packed (packing (header kind) code)
 answered (Clip a b) s = replied Clipped (clipping a b)
 answered (Lines a b) s = replied Meeting (meeting_answer a b)
@@ -117,7 +99,7 @@ abbrev pub performed : Command → State → State
 performed Remark s = s
 performed (Shape w f) s = if_done (forming f) (with_shape w (Some f) s) s
 performed (Support w dir hint) s = with_feature w (support_left (shape_at w s) dir hint (feature_at w s)) s
-performed (Make w row) s = with_feature w (Features.made (row_fields row) (feature_at w s)) s
+performed (Make w row) s = with_feature w (Features.made row (feature_at w s)) s
 performed (Transform w pose) s = with_feature w (moved_or_kept pose (feature_at w s)) s
 performed (Show w) s = s
 performed (Pack kind code) s = s

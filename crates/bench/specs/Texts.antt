@@ -6,7 +6,7 @@ use Rattle.shape.specs.declared.feature_id.PackedFeatureId.{PackedFeatureId}
 use Rattle.query.specs.Clips as Clips
 use Rattle.query.specs.Lines.{hex, pattern}
 use Rattle.script.specs.Faults.{worded}
-use Rattle.script.specs.declared.command.Row.{Row}
+use Rattle.shape.specs.Features.{Fields}
 use Rattle.bench.specs.Answers.{Answer, Nothing, Done, TurnedDown, Unreadable, Feature, Packed, Clipped, Meeting, Root}
 
 -- the text stands behind what was there
@@ -43,7 +43,7 @@ abbrev pub each_text : {A : Type 0} → (A → List ℕ) → List A → List ℕ
 each_text text = flat_map (λ x. space ++ text x)
 
 -- how many vertices are used, the four vertices, and the nine ids
-abbrev pub row_text : Row → List ℕ
+abbrev pub row_text : Fields → List ℕ
 row_text r =
     decimal r.num_vertices
     ++ each_text vector_text r.vertices

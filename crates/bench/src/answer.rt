@@ -4,15 +4,15 @@ ghost use Rattle.bench.specs.declared.answer.Failure.TheVariants.{TurnedDown, Un
 
 use math::refusal::Refusal;
 use query::clip_segment_segment::ClippingPoints;
-use script::command::Row;
 use script::fault::Fault;
 use shape::feature_id::PackedFeatureId;
+use shape::polygonal_feature3d::FeatureRow;
 
 #[derive(Clone, Copy)]
 pub enum Reply {
     Nothing,
     Done,
-    Feature(Row),
+    Feature(FeatureRow),
     Packed(PackedFeatureId),
     Clipped(Option<(ClippingPoints, ClippingPoints)>),
     // How far along each line.

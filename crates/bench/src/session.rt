@@ -1,18 +1,28 @@
 // What a script has put in place so far, and its commands performed there, each by the call that it names.
+ghost use Rattle.std.specs.Prelude.{◌≡◌, ◌<◌};
+ghost use Rattle.bench.specs.Places.{place};
+
 use crate::answer::{Failure, Reply};
 use math::pose::Pose;
 use math::refusal::Refusal;
 use math::root;
 use math::vector::Vector;
 use query::{clip_segment_segment, closest_points_line2d};
-use script::command::{Command, Form, IdKind, Row, Which};
+use script::command::{Command, Form, Which};
 use script::fault::Fault;
 use script::reading;
 use shape::cuboid::Cuboid;
 use shape::cylinder::Cylinder;
 use shape::feature_id::PackedFeatureId;
 use shape::polygonal_feature_map::PolygonalFeatureMap;
-use shape::polygonal_feature3d::PolygonalFeature;
+use shape::polygonal_feature3d::{FeatureRow, PolygonalFeature};
+
+fn place_of(which: Which) -> usize
+    ensures value { result ≡ place which }
+    ensures bound { result < 2 }
+{
+    which as usize
+}
 
 #[derive(Clone, Copy)]
 pub enum Solid {
@@ -28,15 +38,14 @@ pub struct Session {
 }
 
 impl Session {
-    ghost use Rattle.std.specs.Prelude.{◌≡◌, ◌<◌, true, Some};
+    ghost use Rattle.std.specs.Prelude.{true, Some};
     ghost use Rattle.math.specs.Refusals.{told};
     ghost use Rattle.shape.specs.Features.{fields, making, made};
     ghost use Rattle.shape.specs.Moves.{moving, moved_or_kept};
-    ghost use Rattle.shape.specs.Ids.{packing};
     ghost use Rattle.script.specs.Lines.{silent};
     ghost use Rattle.bench.specs.Answers.{told_answer, replied, Done, Nothing};
     ghost use Rattle.bench.specs.Solids.{forming};
-    ghost use Rattle.bench.specs.Sessions.{state, start, shape_at, feature_at, place, with_shape, with_feature, if_done, support_answer, support_left, row_fields, fields_row, header, answered, performed, Ran, RanAsMeant};
+    ghost use Rattle.bench.specs.Sessions.{state, start, shape_at, feature_at, with_shape, with_feature, if_done, support_answer, support_left, answered, performed, Ran, RanAsMeant};
 
     pub fn new() -> Session
         ensures { state result ≡ start }
@@ -66,10 +75,8 @@ impl Session {
             Command::Support(which, dir, hint) => self.support(which, dir, hint),
             Command::Make(which, row) => self.make(which, row),
             Command::Transform(which, pose) => self.transform(which, pose),
-            Command::Show(which) => Ok(Reply::Feature(Session::row_of(
-                self.features[Session::place_of(which)],
-            ))),
-            Command::Pack(kind, code) => Ok(Reply::Packed(Session::pack(kind, code)?)),
+            Command::Show(which) => Ok(Reply::Feature(self.features[place_of(which)].into())),
+            Command::Pack(kind, code) => Ok(Reply::Packed(PackedFeatureId::pack(kind, code)?)),
             Command::Clip(first, second) => {
                 Ok(Reply::Clipped(clip_segment_segment::clip_segment_segment(first, second)?))
             }
@@ -84,7 +91,7 @@ impl Session {
         ensures answer { told_answer result ≡ replied (λ _. Done) (forming sizes) }
         ensures after { state self.new ≡ if_done (forming sizes) (with_shape which (Some sizes) (state self.old)) (state self.old) }
     {
-        self.shapes[Session::place_of(which)] = Some(Solid::make(sizes)?);
+        self.shapes[place_of(which)] = Some(Solid::make(sizes)?);
         Ok(Reply::Done)
     }
 
@@ -92,7 +99,7 @@ impl Session {
         ensures answer { told_answer result ≡ support_answer (shape_at which (state self.old)) dir hint }
         ensures after { state self.new ≡ with_feature which (support_left (shape_at which (state self.old)) dir hint (feature_at which (state self.old))) (state self.old) }
     {
-        let k = Session::place_of(which);
+        let k = place_of(which);
         let shape = self.shapes[k].ok_or(Fault::NoShape)?;
         shape.local_support_feature(dir, hint, &mut self.features[k])?;
         Ok(Reply::Done)
@@ -102,60 +109,20 @@ impl Session {
         ensures answer { told_answer result ≡ replied (λ _. Done) (moving pose (feature_at which (state self.old))) }
         ensures after { state self.new ≡ with_feature which (moved_or_kept pose (feature_at which (state self.old))) (state self.old) }
     {
-        self.features[Session::place_of(which)].transform_by(&pose)?;
+        self.features[place_of(which)].transform_by(&pose)?;
         Ok(Reply::Done)
     }
 
-    fn make(&mut self, which: Which, row: Row) -> Result<Reply, Failure>
-        ensures answer { told_answer result ≡ replied (λ _. Done) (making (row_fields row)) }
-        ensures after { state self.new ≡ with_feature which (made (row_fields row) (feature_at which (state self.old))) (state self.old) }
+    fn make(&mut self, which: Which, row: FeatureRow) -> Result<Reply, Failure>
+        ensures answer { told_answer result ≡ replied (λ _. Done) (making row) }
+        ensures after { state self.new ≡ with_feature which (made row (feature_at which (state self.old))) (state self.old) }
     {
-        PolygonalFeature::make(
-            row.vertices,
-            row.vids,
-            row.eids,
-            row.fid,
-            row.num_vertices,
-            &mut self.features[Session::place_of(which)],
-        )?;
+        PolygonalFeature::make(row, &mut self.features[place_of(which)])?;
         Ok(Reply::Done)
-    }
-
-    fn place_of(which: Which) -> usize
-        ensures value { result ≡ place which }
-        ensures within { result < 2 }
-    {
-        which as usize
-    }
-
-    fn row_of(feature: PolygonalFeature) -> Row
-        ensures { result ≡ fields_row (fields feature) }
-    {
-        let vertices = feature.vertices;
-        let vids = feature.vids;
-        let eids = feature.eids;
-        Row {
-            vertices,
-            vids,
-            eids,
-            fid: feature.fid,
-            num_vertices: feature.num_vertices,
-        }
-    }
-
-    fn pack(kind: IdKind, code: u32) -> Result<PackedFeatureId, Refusal>
-        ensures { told result ≡ packing (header kind) code }
-    {
-        match kind {
-            IdKind::Vertex => PackedFeatureId::vertex(code),
-            IdKind::Edge => PackedFeatureId::edge(code),
-            IdKind::Face => PackedFeatureId::face(code),
-        }
     }
 }
 
 impl Default for Session {
-    ghost use Rattle.std.specs.Prelude.{◌≡◌};
     ghost use Rattle.bench.specs.Sessions.{state, start};
 
     ghost is_default = { λ s. state s ≡ start };
@@ -166,7 +133,7 @@ impl Default for Session {
 }
 
 impl Solid {
-    ghost use Rattle.std.specs.Prelude.{◌≡◌, Some};
+    ghost use Rattle.std.specs.Prelude.{Some};
     ghost use Rattle.math.specs.Refusals.{told_as};
     ghost use Rattle.bench.specs.Solids.{form, forming};
 

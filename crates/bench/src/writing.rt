@@ -7,8 +7,8 @@ ghost use Rattle.bench.specs.Texts.{Wrote, Appended, number_text, id_text, vecto
 use crate::answer::{Failure, Reply};
 use math::vector::Vector;
 use query::clip_segment_segment::ClippingPoints;
-use script::command::Row;
 use shape::feature_id::PackedFeatureId;
+use shape::polygonal_feature3d::FeatureRow;
 use std::alloc::AllocError;
 use std::num::f64_to_bits_with_nan;
 
@@ -130,7 +130,7 @@ impl Text for Vector {
     }
 }
 
-impl Text for Row {
+impl Text for FeatureRow {
     ghost text = { row_text };
 
     fn write_to(&self, out: &mut String) -> Result<(), AllocError> {
@@ -208,7 +208,7 @@ impl Text for Failure {
         match *self {
             Failure::TurnedDown(refusal) => {
                 "refused "
-                    .then(refusal.number() as usize)
+                    .then(usize::from(u8::from(refusal)))
                     .then("\n")
                     .write_to(out)
             }
