@@ -9,7 +9,7 @@ use Rattle.math.specs.declared.vector2.Vector2.{Vector2}
 use Rattle.shape.specs.Features.{unknown}
 use Rattle.shape.specs.Nearness.{vertex_at}
 use Rattle.shape.specs.declared.feature_id.PackedFeatureId.{PackedFeatureId}
-use Rattle.script.specs.Grammar.{Item, Says, Chosen, Number, Word, Place, ordinal, Spells, Spelt, vector_items, segment_items, pose_items, point2_items, segment2_items, hint_items, vectors_items, ids_items, row_items, form_items, kind_name, feature_items, spelling}
+use Rattle.script.specs.Grammar.{Item, Says, Chosen, Number, Word, Place, ordinal, Spells, Spelt, vector_items, segment_items, pose_items, point2_items, segment2_items, hint_items, vectors_items, ids_items, row_items, form_items, kind_items, feature_items, spelling}
 use Rattle.script.specs.Numerals.{is_number, is_word, is_place}
 use Rattle.script.specs.Readings.{Progress, reached, faulty, ◌then◌, past_one, past_number, past_word, past_place, past_ordinal, past_vector, past_segment, past_point2, past_segment2, past_pose, past_hint, past_row, past_form, past_deed, past_kind, past_named, past_command, past_end, past_line, times, by_name}
 use Rattle.script.specs.Words.{Text}
@@ -17,9 +17,9 @@ use Rattle.script.specs.declared.command.Command.{Command}
 use Rattle.script.specs.declared.command.Command.TheVariants.{Remark, Shape, Support, Make, Transform, Show, Pack, Clip, Lines, Sqrt}
 use Rattle.script.specs.declared.command.Form.{Form}
 use Rattle.script.specs.declared.command.Form.TheVariants.{Cylinder, Cuboid}
-use Rattle.script.specs.declared.command.IdKind.{IdKind}
-use Rattle.script.specs.declared.command.IdKind.TheVariants.{Vertex, Edge, Face}
-use Rattle.script.specs.declared.command.Row.{Row}
+use Rattle.shape.specs.declared.feature_id.FeatureKind.{FeatureKind}
+use Rattle.shape.specs.declared.feature_id.FeatureKind.TheVariants.{Vertex, Edge, Face}
+use Rattle.shape.specs.declared.polygonal_feature3d.FeatureRow.{FeatureRow}
 use Rattle.script.specs.declared.command.Which.{Which}
 use Rattle.script.specs.declared.command.Which.TheVariants.{First, Second}
 use Rattle.script.specs.declared.fault.Fault.{Fault}
@@ -74,6 +74,15 @@ named t is next P = record { end = go }
     go [] s = absurd s
     go (w ∷ ws) s = ap (λ (u : Text). next u ws) s.0 ∙ P.end ws s.1
 
+naming : {is : List Item} (t : Text) (next : Text → List Text → Progress) → Passes is (next t) → Passes (Says t ∷ is) (by_name next)
+naming {is} t next P = record { pass = go }
+  where
+    go : (js : List Item) (ws rest : List Text) → Spelt (Says t ∷ is ++ js) ws rest → (mid : List Text) × (by_name next ws ≡ reached mid) × Spelt js mid rest
+    go js [] rest s = absurd s
+    go js (w ∷ ws) rest s =
+        let a = P.pass js ws rest s.1 in
+        (a.0, ap (λ (u : Text). next u ws) s.0 ∙ a.1, a.2)
+
 -- ---- the parts
 
 number : (x : Float) → Passes (Number x ∷ []) past_number
@@ -99,7 +108,7 @@ vector : (v : Vector) → Passes (vector_items v) past_vector
 vector v = number v.x & number v.y & number v.z & none
 
 segment : (s : Vector × Vector) → Passes (segment_items s) past_segment
-segment s = vector s.0 & vector s.1 & none
+segment s = vector s.0 & vector s.1
 
 pose : (p : Pose) → Passes (pose_items p) past_pose
 pose p = vector p.translation & vector p.rotation.b & number p.rotation.w
@@ -116,7 +125,7 @@ vectors vs = vector (vertex_at vs 0) & vector (vertex_at vs 1) & vector (vertex_
 ids : (is : List PackedFeatureId) → Passes (ids_items is) (times 4 past_word)
 ids is = word (get_or is 0 unknown).0 & word (get_or is 1 unknown).0 & word (get_or is 2 unknown).0 & word (get_or is 3 unknown).0 & none
 
-row : (r : Row) → Passes (row_items r) past_row
+row : (r : FeatureRow) → Passes (row_items r) past_row
 row r = place r.num_vertices & vectors r.vertices & ids r.vids & ids r.eids & word r.fid.0
 
 -- a hint stands last
@@ -134,10 +143,10 @@ form : (f : Form) → Ends (form_items f) (by_name past_form)
 form (Cylinder hh r) = named (codes "cylinder") _ past_form (ending (number hh & number r & none))
 form (Cuboid he) = named (codes "cuboid") _ past_form (ending (vector he))
 
-kind : (k : IdKind) (n : ℕ) → Ends (Says (kind_name k) ∷ Word n ∷ []) (by_name past_kind)
-kind Vertex n = named (codes "vertex") _ past_kind (ending (word n))
-kind Edge n = named (codes "edge") _ past_kind (ending (word n))
-kind Face n = named (codes "face") _ past_kind (ending (word n))
+kind : (k : FeatureKind) → Passes (kind_items k) (by_name past_kind)
+kind Vertex = naming (codes "vertex") past_kind none
+kind Edge = naming (codes "edge") past_kind none
+kind Face = naming (codes "face") past_kind none
 
 feature : (k : Which) (deed : Text) (is : List Item) → Ends is (past_deed deed) → Ends (feature_items k deed is) past_command
 feature k deed is P = named (codes "feature") _ past_named (which k && named deed is past_deed P)
@@ -150,7 +159,7 @@ command (Support k dir x) h = feature k (codes "support") _ (vector dir && hint 
 command (Make k r) h = feature k (codes "make") _ (ending (row r))
 command (Transform k p) h = feature k (codes "transform") _ (ending (pose p))
 command (Show k) h = feature k (codes "show") _ (ending none)
-command (Pack k n) h = named (codes "id") _ past_named (kind k n)
+command (Pack k n) h = named (codes "id") _ past_named (ending (kind k & word n))
 command (Clip a b) h = named (codes "clip") _ past_named (ending (segment a & segment b & none))
 command (Lines a b) h = named (codes "lines") _ past_named (ending (segment2 a & segment2 b & none))
 command (Sqrt v) h = named (codes "sqrt") _ past_named (ending (number v))

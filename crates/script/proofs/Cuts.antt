@@ -1,9 +1,11 @@
 -- Where a line is cut: spaces in front go, and the first word ends at the first space.
-use Rattle.std.proofs.Common.{◌≡◌, ℕ, suc, ◌<◌, Bool, true, cond, eqb, List, [], ◌∷◌, ◌++◌, length, get_or, drop, Some, None, sym, refl, ap, ◌∙◌, inl, inr, append_assoc, append-nil, suc-le-suc, zero-le, arith, lit<, ne_eqb}
+use Rattle.std.proofs.Common.{◌≡◌, ℕ, suc, ◌<◌, Bool, true, false, not, cond, eqb, ◌==◌, List, [], ◌∷◌, ◌++◌, length, get_or, drop, Some, None, Option, sym, refl, ap, ◌∙◌, inl, inr, append_assoc, append-nil, suc-le-suc, zero-le, arith, lit<, ne_eqb}
 use lib.Utf8.{encode}
 use Rattle.std.specs.Str.Pattern.{FindsCharPrefix, HasCharAt, CutsPrefixes, IsTrimStartMatches, IsFullyTrimmed}
 use Rattle.std.proofs.lemmas.Str.Pattern.{drop_at_char}
 use Rattle.std.proofs.lemmas.Bool.{cases_Bool, cond-true, cond-false, cond_both}
+use Rattle.std.specs.List.{find}
+use Rattle.std.specs.Option.{option_map_or}
 use Rattle.script.specs.Lines.{silent}
 use Rattle.script.specs.Words.{Text, one_word, words_from, words}
 
@@ -85,3 +87,12 @@ wordless (c ∷ cs) e =
       | inl s ↦ cond-true (eqb c 32) (silent cs) (eqb c 35) s ∙ wordless cs (sym (cond-true (eqb c 32) (words cs) (words_from (c ∷ []) cs) s) ∙ e)
       | inr s ↦ absurd (never_none c [] cs (sym (cond-false (eqb c 32) (words cs) (words_from (c ∷ []) cs) s) ∙ e))
     ]
+
+passed_over : (c : ℕ) (o : Option ℕ) (rest space : Bool) → rest ≡ option_map_or (λ (d : ℕ). d == 35) o true → cond space rest (c == 35) ≡ option_map_or (λ (d : ℕ). d == 35) (cond (not space) (Some c) o) true
+passed_over c o rest true e = e
+passed_over c o rest false e = refl
+
+-- the first byte that is no space decides
+pub silent_by_first : (line : List ℕ) → silent line ≡ option_map_or (λ (c : ℕ). c == 35) (find (λ (c : ℕ). not (c == 32)) line) true
+silent_by_first [] = refl
+silent_by_first (c ∷ cs) = passed_over c (find (λ (d : ℕ). not (d == 32)) cs) (silent cs) (c == 32) (silent_by_first cs)

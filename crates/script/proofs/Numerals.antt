@@ -1,15 +1,15 @@
 -- What the tests of digits say: a numeral as the library has it, with no sign before it; and a decimal that has no `x` in front.
-use Rattle.std.proofs.Common.{◌≡◌, ℕ, ◌^◌, ◌<◌, ◌≤◌, Bool, true, false, cond, ◌&&◌, ◌||◌, eqb, ltb, List, [], ◌∷◌, length, drop, pos, is_some, IfSome, Some, None, Ok, Err, codes, Option, Result, sym, refl, ap, ◌∙◌, subst, arith, lit<, lit≤, ltb-true, ne_eqb, eqb-true}
-use native.Mathlib.Nat.{pow-le-pow_right}
+use Rattle.std.proofs.Common.{◌≡◌, ℕ, ◌-◌, ◌^◌, ◌<◌, ◌≤◌, min, Bool, true, false, cond, ◌&&◌, ◌||◌, eqb, ltb, List, [], ◌∷◌, length, drop, pos, is_some, IfSome, Some, None, Ok, Err, codes, Option, Result, sym, refl, ap, ◌∙◌, subst, arith, lit<, lit≤, ltb-true, ne_eqb, eqb-true}
+use native.Mathlib.Nat.{pow-le-pow_right, min-eq_right, min-eq_left}
 use lib.Ieee.{Float, binary64, of_int}
 use borrow.Author.Tests.{clash}
 use Rattle.std.specs.Str.Parse.{AllDigits, IsNumeral, without_leading_plus, without_leading_sign, starts_with_minus, digits_value, ParsesUnsigned}
 use Rattle.std.specs.Float.Parse.{without_sign, completes_number, is_infinity_text, is_nan_text, is_float_text, ParsesFloat}
-use Rattle.std.specs.Result.{result_ok}
+use Rattle.std.specs.Result.{result_ok, result_unwrap_or}
 use Rattle.std.proofs.lemmas.Int.Digits.{digits_value-lt}
 use Rattle.std.specs.Char.{digit_value}
 use Rattle.math.specs.Floats.{opposite}
-use Rattle.script.specs.Numerals.{all_digits, is_numeral_of, is_minus_numeral, begins, bits_number, is_number, Whole, Writes}
+use Rattle.script.specs.Numerals.{all_digits, is_numeral_of, is_minus_numeral, place, begins, bits_number, is_number, Whole, Writes}
 
 pub both_hold : (a b : Bool) → a && b ≡ true → (a ≡ true) × (b ≡ true)
 both_hold true b e = (refl, e)
@@ -47,6 +47,17 @@ too_large radix k bs small e not =
     let same = ap (digits_value radix) p in
     let h : digits_value radix (without_leading_plus bs) < 2 ^ k → ⊥ = λ l. not (n, l) in
     omega arith
+
+-- What is read of a numeral, and the largest number that 64 bits hold where it is not.
+pub place_read : {E : Type 0} (bs : List ℕ) (r : Result ℕ E) → is_numeral_of 10 bs ≡ true → ParsesUnsigned 64 10 bs r → Some (result_unwrap_or r (2 ^ 64 - 1)) ≡ place bs
+place_read bs r e reads = go r reads ∙ sym (ap (λ (b : Bool). cond b (Some (min (digits_value 10 bs) (2 ^ 64 - 1))) None) e)
+  where
+    go : {E : Type 0} (r : Result ℕ E) → ParsesUnsigned 64 10 bs r → Some (result_unwrap_or r (2 ^ 64 - 1)) ≡ Some (min (digits_value 10 bs) (2 ^ 64 - 1))
+    go (Ok v) reads =
+        let p = no_plus 10 bs (lit≤ tt) e in
+        let small : digits_value 10 bs ≤ 2 ^ 64 - 1 = omega (arith, reads.0.1, ap (digits_value 10) p) in
+        ap Some (reads.1 ∙ ap (digits_value 10) p ∙ sym (min-eq_left small))
+    go (Err x) reads = ap Some (sym (min-eq_right (omega (arith, too_large 10 64 bs (lit≤ tt) e reads))))
 
 -- Sixteen hexadecimal digits are always read.
 pub hex_read : {E : Type 0} (most : ℕ) (bs : List ℕ) (r : Result ℕ E) → most ≤ 16 → length bs ≤ most → is_numeral_of 16 bs ≡ true → ParsesUnsigned 64 16 bs r → result_ok r ≡ Some (digits_value 16 bs)
@@ -107,8 +118,9 @@ unsigned_digits (c ∷ cs) e =
 pub same_test : (ds : List ℕ) → is_numeral_of 10 ds ≡ true → is_float_text ds ≡ is_float_text (45 ∷ ds)
 same_test ds e = ap (λ (t : List ℕ). completes_number 0 t || (is_infinity_text t || is_nan_text t)) (unsigned_digits ds e)
 
-pub minus_read : {E : Type 0} (ds : List ℕ) (x : Float) → is_numeral_of 10 ds ≡ true → ParsesFloat {E = E} binary64 64 ds (Ok x) → Whole (opposite x) (45 ∷ ds)
-minus_read ds x e reads digits small =
+pub minus_read : {E : Type 0} (ds : List ℕ) (r : Result Float E) → is_numeral_of 10 ds ≡ true → ParsesFloat binary64 64 ds r → IfSome (result_ok r) (λ x. Whole (opposite x) (45 ∷ ds))
+minus_read ds (Err x) e reads = tt
+minus_read ds (Ok x) e reads = λ digits small.
     let p = no_plus 10 ds (lit≤ tt) e in
     let n = subst (IsNumeral 10) (sym p) (numeral_holds 10 ds e) in
     let l = subst (λ (t : List ℕ). digits_value 10 t < 2 ^ 64) (sym p) small in

@@ -1,5 +1,6 @@
 -- Parts of a line read one behind the other: their items and their ways past the words join up.
-use Rattle.std.proofs.Common.{◌≡◌, Bool, false, cond, List, [], ◌∷◌, ◌++◌, Ok, sym, refl, ap, ◌∙◌, subst, inl, inr}
+use Rattle.std.proofs.Common.{◌≡◌, Bool, false, cond, List, [], ◌∷◌, ◌++◌, length, get_or, Ok, sym, refl, ap, ◌∙◌, subst, inl, inr, append-nil, arith}
+use Rattle.std.specs.List.{flat_map}
 use Rattle.std.proofs.lemmas.Slice.Eq.{bytes_eq-Decides}
 use Rattle.std.proofs.lemmas.Bool.{cases_Bool}
 use Rattle.std.specs.Str.{bytes_eq}
@@ -56,3 +57,25 @@ unsaid {w} {t} this other h = sym (ap (λ (b : Bool). cond b this other) (other_
 -- by the word that stands first
 pub by : (next : Text → List Text → Progress) {w : Text} {ws before : List Text} → before ≡ w ∷ ws → next w ws ≡ by_name next before
 by next e = sym (ap (by_name next) e)
+
+-- ---- arrays
+
+-- two in a row, each at its place
+pub two : {A : Type 0} (items : A → List Item) (blank : A) (xs : List A) → length xs ≡ 2 → flat_map items xs ≡ items (get_or xs 0 blank) ++ items (get_or xs 1 blank)
+two items blank [] e = absurd (omega arith)
+two items blank (a ∷ []) e = absurd (omega arith)
+two items blank (a ∷ b ∷ []) e = rw (append-nil (items b)) refl
+two items blank (a ∷ b ∷ c ∷ xs) e = absurd (omega arith)
+
+-- four in a row
+pub four : {A : Type 0} (items : A → List Item) (blank : A) (xs : List A) → length xs ≡ 4 → flat_map items xs ≡ items (get_or xs 0 blank) ++ (items (get_or xs 1 blank) ++ (items (get_or xs 2 blank) ++ items (get_or xs 3 blank)))
+four items blank [] e = absurd (omega arith)
+four items blank (a ∷ []) e = absurd (omega arith)
+four items blank (a ∷ b ∷ []) e = absurd (omega arith)
+four items blank (a ∷ b ∷ c ∷ []) e = absurd (omega arith)
+four items blank (a ∷ b ∷ c ∷ d ∷ []) e = rw (append-nil (items d)) refl
+four items blank (a ∷ b ∷ c ∷ d ∷ f ∷ xs) e = absurd (omega arith)
+
+-- what is spelt, in other words
+pub spelt_as : {is js : List Item} {past : List Text → Progress} {before after : List Text} → is ≡ js → Past is past before after → Past js past before after
+spelt_as {is} {js} {past} {before} {after} e p = subst (λ (ks : List Item). Past ks past before after) e p

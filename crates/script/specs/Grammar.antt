@@ -14,9 +14,9 @@ use Rattle.script.specs.declared.command.Command.{Command}
 use Rattle.script.specs.declared.command.Command.TheVariants.{Remark, Shape, Support, Make, Transform, Show, Pack, Clip, Lines, Sqrt}
 use Rattle.script.specs.declared.command.Form.{Form}
 use Rattle.script.specs.declared.command.Form.TheVariants.{Cylinder, Cuboid}
-use Rattle.script.specs.declared.command.IdKind.{IdKind}
-use Rattle.script.specs.declared.command.IdKind.TheVariants.{Vertex, Edge, Face}
-use Rattle.script.specs.declared.command.Row.{Row}
+use Rattle.shape.specs.declared.feature_id.FeatureKind.{FeatureKind}
+use Rattle.shape.specs.declared.feature_id.FeatureKind.TheVariants.{Vertex, Edge, Face}
+use Rattle.shape.specs.declared.polygonal_feature3d.FeatureRow.{FeatureRow}
 use Rattle.script.specs.declared.command.Which.{Which}
 use Rattle.script.specs.declared.command.Which.TheVariants.{First, Second}
 
@@ -63,9 +63,13 @@ point2_items p = Number p.x ∷ Number p.y ∷ []
 abbrev pub segment2_items : List Vector2 → List Item
 segment2_items ps = point2_items (point_at ps 0) ++ point2_items (point_at ps 1)
 
+-- what is spelt only if it is there
+abbrev pub optional_items : {A : Type 0} → (A → List Item) → Option A → List Item
+optional_items items None = []
+optional_items items (Some a) = items a
+
 abbrev pub hint_items : Option Vector → List Item
-hint_items None = []
-hint_items (Some v) = vector_items v
+hint_items = optional_items vector_items
 
 abbrev pub vectors_items : List Vector → List Item
 vectors_items vs = vector_items (vertex_at vs 0) ++ (vector_items (vertex_at vs 1) ++ (vector_items (vertex_at vs 2) ++ vector_items (vertex_at vs 3)))
@@ -77,17 +81,20 @@ abbrev pub ids_items : List PackedFeatureId → List Item
 ids_items is = id_item (slice_index_or is 0 unknown) ∷ id_item (slice_index_or is 1 unknown) ∷ id_item (slice_index_or is 2 unknown) ∷ id_item (slice_index_or is 3 unknown) ∷ []
 
 -- how many vertices are used, the vertices, their ids, the ids of the edges, that of the face
-abbrev pub row_items : Row → List Item
+abbrev pub row_items : FeatureRow → List Item
 row_items r = Place r.num_vertices ∷ (vectors_items r.vertices ++ (ids_items r.vids ++ (ids_items r.eids ++ (id_item r.fid ∷ []))))
 
 abbrev pub form_items : Form → List Item
 form_items (Cylinder hh r) = Says (codes "cylinder") ∷ Number hh ∷ Number r ∷ []
 form_items (Cuboid he) = Says (codes "cuboid") ∷ vector_items he
 
-abbrev pub kind_name : IdKind → Text
+abbrev pub kind_name : FeatureKind → Text
 kind_name Vertex = codes "vertex"
 kind_name Edge = codes "edge"
 kind_name Face = codes "face"
+
+abbrev pub kind_items : FeatureKind → List Item
+kind_items k = Says (kind_name k) ∷ []
 
 -- ---- the commands
 

@@ -7,10 +7,10 @@ use Rattle.std.specs.Float.Parse.{is_float_text}
 use Rattle.std.specs.Option.{option_map}
 use Rattle.std.specs.Str.Parse.{digits_value, starts_with_minus, without_leading_sign}
 use Rattle.std.specs.Char.{digit_value}
+use Rattle.std.specs.List.{list_all}
 
 abbrev pub all_digits : ℕ → List ℕ → Bool
-all_digits radix [] = true
-all_digits radix (c ∷ cs) = nat_lt (digit_value c) radix && all_digits radix cs
+all_digits radix = list_all (λ c. nat_lt (digit_value c) radix)
 
 -- one digit or more, and nothing else
 abbrev pub is_numeral_of : ℕ → List ℕ → Bool

@@ -51,8 +51,12 @@ times (suc n) part ws = part ws then times n part
 abbrev pub past_vector : List Text → Progress
 past_vector = times 3 past_number
 
+-- past one part and then another
+abbrev pub past_both : (List Text → Progress) → (List Text → Progress) → List Text → Progress
+past_both first second ws = first ws then second
+
 abbrev pub past_segment : List Text → Progress
-past_segment = times 2 past_vector
+past_segment = past_both past_vector past_vector
 
 abbrev pub past_point2 : List Text → Progress
 past_point2 = times 2 past_number
@@ -63,10 +67,13 @@ past_segment2 = times 2 past_point2
 abbrev pub past_pose : List Text → Progress
 past_pose ws = past_vector ws then (λ us. past_vector us then past_number)
 
--- past a vector, unless the line ends here
+-- past a part, unless the line ends here
+abbrev pub unless_ended : (List Text → Progress) → List Text → Progress
+unless_ended part [] = reached []
+unless_ended part (w ∷ ws) = part (w ∷ ws)
+
 abbrev pub past_hint : List Text → Progress
-past_hint [] = reached []
-past_hint (w ∷ ws) = past_vector (w ∷ ws)
+past_hint = unless_ended past_vector
 
 abbrev pub past_row : List Text → Progress
 past_row ws = past_place ws then (λ us. times 4 past_vector us then (λ vs. times 4 past_word vs then (λ xs. times 4 past_word xs then past_word)))
@@ -96,16 +103,16 @@ past_deed w ws =
 
 abbrev pub past_kind : Text → List Text → Progress
 past_kind w ws =
-    saying (codes "vertex") w (past_word ws)
-    (saying (codes "edge") w (past_word ws)
-    (saying (codes "face") w (past_word ws)
+    saying (codes "vertex") w (reached ws)
+    (saying (codes "edge") w (reached ws)
+    (saying (codes "face") w (reached ws)
     (faulty UnknownCommand)))
 
 abbrev pub past_named : Text → List Text → Progress
 past_named w ws =
     saying (codes "shape") w (past_ordinal ws then by_name past_form)
     (saying (codes "feature") w (past_ordinal ws then by_name past_deed)
-    (saying (codes "id") w (by_name past_kind ws)
+    (saying (codes "id") w (by_name past_kind ws then past_word)
     (saying (codes "clip") w (times 2 past_segment ws)
     (saying (codes "lines") w (times 2 past_segment2 ws)
     (saying (codes "sqrt") w (past_number ws)

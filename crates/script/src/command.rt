@@ -2,20 +2,14 @@
 use math::pose::Pose;
 use math::vector::Vector;
 use math::vector2::Vector2;
-use shape::feature_id::PackedFeatureId;
+use shape::feature_id::FeatureKind;
+use shape::polygonal_feature3d::FeatureRow;
 
 // The shape and the feature that a command means.
 #[derive(Clone, Copy)]
 pub enum Which {
     First,
     Second,
-}
-
-#[derive(Clone, Copy)]
-pub enum IdKind {
-    Vertex,
-    Edge,
-    Face,
 }
 
 // A shape's kind and sizes as given.
@@ -27,26 +21,16 @@ pub enum Form {
     Cuboid(Vector),
 }
 
-// A feature's fields as given.
-#[derive(Clone, Copy)]
-pub struct Row {
-    pub vertices: [Vector; 4],
-    pub vids: [PackedFeatureId; 4],
-    pub eids: [PackedFeatureId; 4],
-    pub fid: PackedFeatureId,
-    pub num_vertices: usize,
-}
-
 #[derive(Clone, Copy)]
 pub enum Command {
     // A line with no word, or whose first word begins with `#`.
     Remark,
     Shape(Which, Form),
     Support(Which, Vector, Option<Vector>),
-    Make(Which, Row),
+    Make(Which, FeatureRow),
     Transform(Which, Pose),
     Show(Which),
-    Pack(IdKind, u32),
+    Pack(FeatureKind, u32),
     Clip((Vector, Vector), (Vector, Vector)),
     Lines([Vector2; 2], [Vector2; 2]),
     Sqrt(f64),

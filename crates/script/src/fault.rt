@@ -1,6 +1,11 @@
 // Why a line of a script cannot be read.
-ghost use Rattle.std.specs.Prelude.{◌≡◌};
+ghost use Rattle.std.specs.Prelude.{◌≡◌, Some};
+ghost use Rattle.script.specs.declared.fault.Fault.TheVariants.{NotText};
 ghost use Rattle.script.specs.Faults.{worded};
+
+use std::error::Error;
+use std::fmt;
+use std::str::Utf8Error;
 
 #[derive(Clone, Copy, Debug, PartialEq, Eq)]
 pub enum Fault {
@@ -31,5 +36,23 @@ impl Fault {
             Fault::NotOneOrTwo => "1 or 2 was expected",
             Fault::NoShape => "that shape is not there yet",
         }
+    }
+}
+
+impl fmt::Display for Fault {
+    ghost output = { λ f. Some (worded f) };
+
+    fn fmt<W: fmt::Write>(&self, f: &mut fmt::Formatter<W>) -> fmt::Result {
+        f.write_str(self.reason())
+    }
+}
+
+impl Error for Fault {}
+
+impl From<Utf8Error> for Fault {
+    ghost from_gives = { λ _ f. f ≡ NotText };
+
+    fn from(_error: Utf8Error) -> Self {
+        Self::NotText
     }
 }

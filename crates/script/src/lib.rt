@@ -4,5 +4,6 @@
 pub mod command;
 pub mod fault;
 mod numbers;
+mod readable;
 pub mod reading;
 mod words;

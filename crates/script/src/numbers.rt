@@ -24,10 +24,7 @@ fn read_decimal(text: &str) -> Option<f64>
     ensures some { IfSome result (λ x. Whole x text.now) }
 {
     match minus_digits(text) {
-        Some(digits) => match digits.parse::<f64>() {
-            Ok(value) => Some(-value),
-            Err(_) => None,
-        },
+        Some(digits) => Some(-digits.parse::<f64>().ok()?),
         None => text.parse::<f64>().ok(),
     }
 }
@@ -36,16 +33,8 @@ fn read_decimal(text: &str) -> Option<f64>
 fn minus_digits(text: &str) -> Option<&str>
     ensures { MatchOption result (is_minus_numeral text.now ≡ false) (λ d. (text.now ≡ 45 ∷ d.now) × (is_numeral_of 10 d.now ≡ true)) }
 {
-    match text.strip_prefix("-") {
-        Some(digits) => {
-            if is_numeral(digits, 10) {
-                Some(digits)
-            } else {
-                None
-            }
-        }
-        None => None,
-    }
+    text.strip_prefix("-")
+        .filter(|digits| is_numeral(digits, 10))
 }
 
 fn read_bits(digits: &str) -> Option<f64>
@@ -54,35 +43,18 @@ fn read_bits(digits: &str) -> Option<f64>
     if digits.len() != 16 {
         return None;
     }
-    match read_hex(digits, 16) {
-        Some(bits) => Some(f64_from_bits_with_nan(bits)),
-        None => None,
-    }
+    Some(f64_from_bits_with_nan(read_hex(digits, 16)?))
 }
 
 // Below 2^32, in decimal or as `0x` and at most eight hexadecimal digits.
 pub fn read_word(text: &str) -> Option<u32>
     ensures { result ≡ word text.now }
 {
-    match text.strip_prefix("0x") {
-        Some(digits) => narrow(read_hex(digits, 8)),
-        None => narrow(read_place(text)),
-    }
-}
-
-fn narrow(value: Option<u64>) -> Option<u32>
-    ensures { result ≡ narrowed value }
-{
-    match value {
-        Some(v) => {
-            if v < 0x1_0000_0000 {
-                Some(v as u32)
-            } else {
-                None
-            }
-        }
-        None => None,
-    }
+    let value = match text.strip_prefix("0x") {
+        Some(digits) => read_hex(digits, 8),
+        None => read_place(text),
+    };
+    value.and_then(|v| u32::try_from(v).ok())
 }
 
 // Decimal digits alone. What 64 bits do not hold is read as the largest that they do.
@@ -92,10 +64,7 @@ pub fn read_place(text: &str) -> Option<u64>
     if !is_numeral(text, 10) {
         return None;
     }
-    match text.parse::<u64>() {
-        Ok(value) => Some(value),
-        Err(_) => Some(u64::MAX),
-    }
+    Some(text.parse::<u64>().unwrap_or(u64::MAX))
 }
 
 // One to `most` hexadecimal digits of either case.
@@ -113,17 +82,9 @@ fn is_numeral(text: &str, radix: u32) -> bool
     requires { (2 ≤ radix) × (radix ≤ 36) }
     ensures { result ≡ is_numeral_of radix text.now }
 {
-    !text.is_empty() && are_digits(text.as_bytes(), radix)
-}
-
-fn are_digits(bytes: &[u8], radix: u32) -> bool
-    requires { (2 ≤ radix) × (radix ≤ 36) }
-    ensures { result ≡ all_digits radix bytes.now }
-{
-    for byte in bytes {
-        if !(*byte as char).is_digit(radix) {
-            return false;
-        }
-    }
-    true
+    !text.is_empty()
+        && text
+            .as_bytes()
+            .iter()
+            .all(|byte| char::from(*byte).is_digit(radix))
 }

@@ -2,14 +2,15 @@
 ghost use Rattle.std.specs.Prelude.{◌≡◌, true, [], ◌∷◌, is_ok, IfOk, Ok, codes, MatchResult};
 ghost use Rattle.script.specs.declared.command.Command.{Command};
 ghost use Rattle.script.specs.declared.command.Command.TheVariants.{Remark};
-ghost use Rattle.script.specs.Grammar.{spelling};
+ghost use Rattle.script.specs.Grammar.{spelling, form_items, kind_items};
 ghost use Rattle.script.specs.Lines.{silent, Means, Faulty, Alike};
-ghost use Rattle.script.specs.Readings.{Took, past_command, past_line};
+ghost use Rattle.script.specs.Readings.{Took, past_command, past_form, past_kind, past_line, by_name};
 ghost use Rattle.script.specs.Words.{words, coming};
 
-use crate::command::{Command, Form, IdKind};
+use crate::command::{Command, Form};
 use crate::fault::Fault;
-use crate::words::Words;
+use crate::words::{Readable, Words};
+use shape::feature_id::FeatureKind;
 
 // What is read is what the line means, and nothing else is; and a line that means a command is read.
 pub fn read_command(line: &[u8]) -> Result<Command, Fault>
@@ -21,103 +22,83 @@ pub fn read_command(line: &[u8]) -> Result<Command, Fault>
     if is_silent(line) {
         return Ok(Command::Remark);
     }
-    match std::str::from_utf8(line) {
-        Ok(text) => read_text(text),
-        Err(_) => Err(Fault::NotText),
-    }
+    read_text(std::str::from_utf8(line)?)
 }
 
 // Nothing but spaces, or a first word that begins with `#`.
 fn is_silent(line: &[u8]) -> bool
     ensures { result ≡ silent line.now }
 {
-    for byte in line {
-        if *byte != b' ' {
-            return *byte == b'#';
-        }
-    }
-    true
+    line.iter()
+        .find(|byte| **byte != b' ')
+        .is_none_or(|byte| *byte == b'#')
 }
 
 fn read_text(text: &str) -> Result<Command, Fault>
     ensures { Took spelling past_line (words text.now) result [] }
 {
     let mut words = Words::new(text);
-    let command = read_named(&mut words)?;
+    let command = words.read()?;
     words.end()?;
     Ok(command)
 }
 
-fn read_named(words: &mut Words<'_>) -> Result<Command, Fault>
-    ensures { Took spelling past_command (coming words.old) result (coming words.new) }
-{
-    match words.expected()? {
-        "shape" => read_shape(words),
-        "feature" => read_feature(words),
-        "id" => read_id(words),
-        "clip" => read_clip(words),
-        "lines" => read_lines(words),
-        "sqrt" => Ok(Command::Sqrt(words.number()?)),
-        _ => Err(Fault::UnknownCommand),
-    }
-}
+impl Readable for Command {
+    ghost items = { spelling };
 
-fn read_shape(words: &mut Words<'_>) -> Result<Command, Fault>
-    ensures { Took spelling past_command (codes "shape" ∷ coming words.old) result (coming words.new) }
-{
-    let which = words.which()?;
-    match words.expected()? {
-        "cylinder" => {
-            let half_height = words.number()?;
-            let radius = words.number()?;
-            Ok(Command::Shape(which, Form::Cylinder(half_height, radius)))
+    ghost past = { past_command };
+
+    fn read(words: &mut Words<'_>) -> Result<Command, Fault> {
+        match words.expected()? {
+            "shape" => Ok(Command::Shape(words.read()?, words.read()?)),
+            "feature" => read_feature(words),
+            "id" => Ok(Command::Pack(words.read()?, words.read()?)),
+            "clip" => Ok(Command::Clip(words.read()?, words.read()?)),
+            "lines" => Ok(Command::Lines(words.read()?, words.read()?)),
+            "sqrt" => Ok(Command::Sqrt(words.read()?)),
+            _ => Err(Fault::UnknownCommand),
         }
-        "cuboid" => Ok(Command::Shape(which, Form::Cuboid(words.vector()?))),
-        _ => Err(Fault::UnknownCommand),
     }
 }
 
 fn read_feature(words: &mut Words<'_>) -> Result<Command, Fault>
     ensures { Took spelling past_command (codes "feature" ∷ coming words.old) result (coming words.new) }
 {
-    let which = words.which()?;
+    let which = words.read()?;
     match words.expected()? {
-        "support" => {
-            let dir = words.vector()?;
-            let hint = words.hint()?;
-            Ok(Command::Support(which, dir, hint))
-        }
-        "make" => Ok(Command::Make(which, words.row()?)),
-        "transform" => Ok(Command::Transform(which, words.pose()?)),
+        "support" => Ok(Command::Support(which, words.read()?, words.read()?)),
+        "make" => Ok(Command::Make(which, words.read()?)),
+        "transform" => Ok(Command::Transform(which, words.read()?)),
         "show" => Ok(Command::Show(which)),
         _ => Err(Fault::UnknownCommand),
     }
 }
 
-fn read_id(words: &mut Words<'_>) -> Result<Command, Fault>
-    ensures { Took spelling past_command (codes "id" ∷ coming words.old) result (coming words.new) }
-{
-    let kind = match words.expected()? {
-        "vertex" => IdKind::Vertex,
-        "edge" => IdKind::Edge,
-        "face" => IdKind::Face,
-        _ => return Err(Fault::UnknownCommand),
-    };
-    Ok(Command::Pack(kind, words.word()?))
+impl Readable for Form {
+    ghost items = { form_items };
+
+    ghost past = { by_name past_form };
+
+    fn read(words: &mut Words<'_>) -> Result<Form, Fault> {
+        match words.expected()? {
+            "cylinder" => Ok(Form::Cylinder(words.read()?, words.read()?)),
+            "cuboid" => Ok(Form::Cuboid(words.read()?)),
+            _ => Err(Fault::UnknownCommand),
+        }
+    }
 }
 
-fn read_clip(words: &mut Words<'_>) -> Result<Command, Fault>
-    ensures { Took spelling past_command (codes "clip" ∷ coming words.old) result (coming words.new) }
-{
-    let first = words.segment()?;
-    let second = words.segment()?;
-    Ok(Command::Clip(first, second))
-}
+impl Readable for FeatureKind {
+    ghost items = { kind_items };
 
-fn read_lines(words: &mut Words<'_>) -> Result<Command, Fault>
-    ensures { Took spelling past_command (codes "lines" ∷ coming words.old) result (coming words.new) }
-{
-    let first = words.segment2()?;
-    let second = words.segment2()?;
-    Ok(Command::Lines(first, second))
+    ghost past = { by_name past_kind };
+
+    fn read(words: &mut Words<'_>) -> Result<FeatureKind, Fault> {
+        match words.expected()? {
+            "vertex" => Ok(FeatureKind::Vertex),
+            "edge" => Ok(FeatureKind::Edge),
+            "face" => Ok(FeatureKind::Face),
+            _ => Err(Fault::UnknownCommand),
+        }
+    }
 }

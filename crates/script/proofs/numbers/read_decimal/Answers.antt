@@ -1,28 +1,16 @@
 -- Digits after a minus are read by themselves; any other text is left to the library.
-use Rattle.std.proofs.Common.{IfSome, Option, sym, ap, ◌∙◌, subst}
+use Rattle.std.proofs.Common.{IfSome, Option, ◌∷◌, sym, subst}
 use lib.Ieee.{Float}
-use Rattle.std.specs.Float.Parse.{is_float_text}
 use Rattle.math.specs.Floats.{opposite}
 use Rattle.script.specs.Numerals.{Whole}
-use Rattle.script.proofs.Numerals.{same_test, minus_read, unsigned_read}
+use Rattle.script.proofs.Numerals.{minus_read, unsigned_read}
 use Rattle.script.proofs.numbers.read_decimal.Goals as goal
 
-pub returns-in-Ok : goal.returns-in-Ok
-returns-in-Ok c =
-    let ds = c.in-Some.digits.now in
-    let e = c.in-Some.ensures in
-    let reads = c.in-Ok.ensures.value.0 in
-    record {
-      test = reads.0 ∙ same_test ds e.1 ∙ ap is_float_text (sym e.0);
-      some = subst (Whole (opposite c.in-Ok.value)) (sym e.0) (minus_read ds c.in-Ok.value e.1 reads);
-    }
+pub returns-in_ok-ok-in-Some-clause-some : goal.returns-in_ok-ok-in-Some-clause-some
+returns-in_ok-ok-in-Some-clause-some c =
+    let found = subst (λ (o : Option Float). IfSome o (λ x. Whole (opposite x) (45 ∷ c.in-Some.digits.now))) (sym c.in_ok-ok-in-Some.ensures.value) (minus_read c.in-Some.digits.now c.parse.result c.in-Some.ensures.1 c.parse.ensures.value.0) in
+    subst (Whole (opposite c.in_ok-ok-in-Some.field-0)) (sym c.in-Some.ensures.0) found
 
-pub returns-in-None : goal.returns-in-None
-returns-in-None c =
-    let bs = c.args.text.now in
-    let none = c.in-None.ensures in
-    let reads = c.parse-in-None.ensures.value.0 in
-    record {
-      test = c.ok.ensures.variant ∙ reads.0;
-      some = subst (λ (o : Option Float). IfSome o (λ x. Whole x bs)) (sym c.ok.ensures.value) (unsigned_read bs c.parse-in-None.result none reads);
-    }
+pub returns-in-None-clause-some : goal.returns-in-None-clause-some
+returns-in-None-clause-some c =
+    subst (λ (o : Option Float). IfSome o (λ x. Whole x c.args.text.now)) (sym c.ok-in-None.ensures.value) (unsigned_read c.args.text.now c.parse-in-None.result c.in-None.ensures c.parse-in-None.ensures.value.0)

@@ -1,5 +1,5 @@
 -- A line is silent, is no text, or is read word by word; and what spells a command is read.
-use Rattle.std.proofs.Common.{◌≡◌, true, false, List, [], is_ok, IfOk, Ok, Err, IsUtf8, Result, sym, refl, ◌∙◌, subst, MatchResult}
+use Rattle.std.proofs.Common.{◌≡◌, true, false, List, [], is_ok, IfOk, Ok, Err, IsUtf8, Result, sym, refl, ◌∙◌, subst, MatchResult, IsErrAnd}
 use borrow.Author.Tests.{clash}
 use Rattle.script.specs.Grammar.{Spelt, spelling}
 use Rattle.script.specs.Lines.{silent, Means, remark, spelt, Faulty, not_text, at_word, Alike}
@@ -8,6 +8,7 @@ use Rattle.script.specs.Words.{Text, words}
 use Rattle.script.specs.declared.command.Command.{Command}
 use Rattle.script.specs.declared.command.Command.TheVariants.{Remark}
 use Rattle.script.specs.declared.fault.Fault.{Fault}
+use Rattle.script.specs.declared.fault.Fault.TheVariants.{NotText}
 use Rattle.script.proofs.Complete.{whole_line}
 use Rattle.script.proofs.Cuts.{wordless}
 use Rattle.script.proofs.OneMeaning.{same_items}
@@ -46,14 +47,28 @@ alone line (Ok c) loud t = λ d means. other means
     other (remark s) = absurd (clash (sym loud ∙ s))
     other (spelt d q text s) = same_items c d (words line) (no_remark line loud t.spelt) (no_remark line loud s) t.spelt s
 
-pub returns-then-is_silent : goal.returns-then-is_silent
-returns-then-is_silent c = record { silent = λ _. refl; cases = remark (sym c.if-is_silent.ensures); one = λ _ means. silence _ (sym c.if-is_silent.ensures) means; succeeds = λ _ _. refl }
+unread : (line : Text) (r : Result Command Fault) → silent line ≡ false → (IsUtf8 line → ⊥) → IsErrAnd r (λ f. f ≡ NotText) → MatchResult r (Means line) (Faulty line)
+unread line (Ok c) loud none e = absurd e
+unread line (Err f) loud none e = subst (Faulty line) (sym e) (not_text loud none)
 
-pub returns-in-Ok : goal.returns-in-Ok
-returns-in-Ok c =
+pub returns-then-is_silent-clause-cases : goal.returns-then-is_silent-clause-cases
+returns-then-is_silent-clause-cases c = remark (sym c.if-is_silent.ensures)
+
+pub returns-then-is_silent-clause-one : goal.returns-then-is_silent-clause-one
+returns-then-is_silent-clause-one c = λ _ means. silence _ (sym c.if-is_silent.ensures) means
+
+pub returns-in_err-from_utf8-clause-cases : goal.returns-in_err-from_utf8-clause-cases
+returns-in_err-from_utf8-clause-cases c =
+    unread c.args.line.now c.from_residual.result (sym c.if-is_silent.ensures) c.in_err-from_utf8.ensures.cases.0 c.from_residual.ensures.1
+
+pub returns-in_err-from_utf8-clause-succeeds : goal.returns-in_err-from_utf8-clause-succeeds
+returns-in_err-from_utf8-clause-succeeds c = λ _ means. absurd (c.in_err-from_utf8.ensures.cases.0 (is_text (sym c.if-is_silent.ensures) means))
+
+pub returns : goal.returns
+returns c =
     let line = c.args.line.now in
     let loud = sym c.if-is_silent.ensures in
-    let text = c.in-Ok.ensures.cases in
+    let text = c.in_ok-from_utf8.ensures.cases in
     let took = subst (λ (t : Text). Took spelling past_line (words t) c.read_text.result []) text.0 c.read_text.ensures in
     record {
       silent = λ quiet. absurd (clash (sym loud ∙ quiet));
@@ -61,9 +76,3 @@ returns-in-Ok c =
       one = alone line c.read_text.result loud took;
       succeeds = λ _ means. read_on (words line) c.read_text.result took (passed line loud means);
     }
-
-pub returns-in-Err : goal.returns-in-Err
-returns-in-Err c =
-    let loud = sym c.if-is_silent.ensures in
-    let none = c.in-Err.ensures.cases.0 in
-    record { silent = λ quiet. absurd (clash (sym loud ∙ quiet)); cases = not_text loud none; one = tt; succeeds = λ _ means. absurd (none (is_text loud means)) }
