@@ -62,7 +62,8 @@ impl Session {
         ensures silent { silent line.now ≡ true → told_answer result ≡ Nothing }
         ensures meant { RanAsMeant line.now (state self.old) (told_answer result) (state self.new) }
     {
-        self.perform(reading::read_command(line)?)
+        let command = reading::read_command(line)?;
+        self.perform(command)
     }
 
     pub fn perform(&mut self, command: Command) -> Result<Reply, Failure>

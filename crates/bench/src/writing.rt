@@ -227,7 +227,7 @@ fn write_hex(out: &mut String, digits: usize, value: u64) -> Result<(), AllocErr
 {
     for i in 0..digits {
         let nibble = (value >> (4 * (digits - 1 - i))) % 16;
-        put_char(out, hex_digit(nibble as u8))?;
+        put_char(out, hex_digit(nibble as u32))?;
     }
     Ok(())
 }
@@ -240,14 +240,10 @@ fn put_char(out: &mut String, c: char) -> Result<(), AllocError>
     out.push(c)
 }
 
-fn hex_digit(nibble: u8) -> char
+fn hex_digit(nibble: u32) -> char
     requires { nibble < 16 }
     ensures value { result ≡ digit nibble }
     ensures bound { result < 128 }
 {
-    if nibble < 10 {
-        (b'0' + nibble) as char
-    } else {
-        (b'a' + (nibble - 10)) as char
-    }
+    char::from_digit(nibble, 16).unwrap()
 }
