@@ -1,2 +1,5 @@
+pub mod Answers
+pub mod Solids
+pub mod Places
 pub mod Sessions
 pub mod Texts

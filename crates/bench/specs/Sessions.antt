@@ -1,42 +1,30 @@
 -- What a session holds, and what each command answers and leaves there.
-use Rattle.std.specs.Prelude.{◌≡◌, ℕ, cond, Some, None, Option}
+use Rattle.std.specs.Prelude.{◌≡◌, ℕ, cond, List, map, slice_index_or, Some, None, Option}
 use Rattle.math.specs.Floats.{root}
 use Rattle.math.specs.Refusals as Refusals
 use Rattle.math.specs.Refusals.{done, refused}
 use Rattle.math.specs.declared.vector.Vector.{Vector}
-use Rattle.shape.specs.Cuboids as Cuboids
-use Rattle.shape.specs.Cylinders as Cylinders
 use Rattle.shape.specs.Features.{Fields, fields, nothing}
 use Rattle.shape.specs.Features as Features
-use Rattle.shape.specs.Ids.{vertex_header, edge_header, face_header, packing}
+use Rattle.shape.specs.Ids.{header, packing}
 use Rattle.shape.specs.Moves.{moving, moved_or_kept}
 use Rattle.shape.specs.Supports.{direction_given, supporting}
+use Rattle.shape.specs.declared.polygonal_feature3d.PolygonalFeature.{PolygonalFeature}
 use Rattle.query.specs.Clips.{clipping}
 use Rattle.query.specs.Meeting.{meeting_answer}
-use Rattle.bench.specs.declared.answer.Answer.{Answer}
-use Rattle.bench.specs.declared.answer.Answer.TheVariants.{Nothing, Done, TurnedDown, Unreadable, Feature, Packed, Clipped, Meeting, Root}
 use Rattle.script.specs.Lines.{Means, Faulty}
 use Rattle.script.specs.Words.{Text}
 use Rattle.script.specs.declared.command.Command.{Command}
 use Rattle.script.specs.declared.command.Command.TheVariants.{Remark, Shape, Support, Make, Transform, Show, Pack, Clip, Lines, Sqrt}
 use Rattle.script.specs.declared.command.Form.{Form}
-use Rattle.script.specs.declared.command.Form.TheVariants as FormOf
-use Rattle.shape.specs.declared.feature_id.FeatureKind.{FeatureKind}
-use Rattle.shape.specs.declared.feature_id.FeatureKind.TheVariants.{Vertex, Edge, Face}
-use Rattle.shape.specs.declared.polygonal_feature3d.FeatureRow.{FeatureRow}
 use Rattle.script.specs.declared.command.Which.{Which}
 use Rattle.script.specs.declared.command.Which.TheVariants.{First, Second}
 use Rattle.script.specs.declared.fault.Fault.{Fault}
 use Rattle.script.specs.declared.fault.Fault.TheVariants.{NoShape}
+use Rattle.bench.specs.Answers.{Answer, Nothing, Done, Unreadable, Feature, Packed, Clipped, Meeting, Root, replied}
+use Rattle.bench.specs.Solids.{form, forming, supported}
 use Rattle.bench.specs.declared.session.Session.{Session}
 use Rattle.bench.specs.declared.session.Solid.{Solid}
-use Rattle.bench.specs.declared.session.Solid.TheVariants as SolidOf
-
--- a shape by its kind and sizes
-abbrev pub form : Solid → Option Form
-form SolidOf.Absent = None
-form (SolidOf.Cylinder c) = Some (FormOf.Cylinder c.half_height c.radius)
-form (SolidOf.Cuboid c) = Some (FormOf.Cuboid c.half_extents)
 
 -- the two shapes and the two features
 pub record State : Type 0 where
@@ -45,8 +33,20 @@ pub record State : Type 0 where
   pub feature1 : Fields
   pub feature2 : Fields
 
+-- what stands at a place of a session's row; past its end, nothing
+abbrev pub shape_in : List (Option Solid) → ℕ → Option Solid
+shape_in shapes k = slice_index_or shapes k None
+
+abbrev pub fields_in : List PolygonalFeature → ℕ → Fields
+fields_in features k = slice_index_or (map fields features) k nothing
+
 abbrev pub state : Session → State
-state s = record { shape1 = form s.shape1; shape2 = form s.shape2; feature1 = fields s.feature1; feature2 = fields s.feature2 }
+state s = record {
+  shape1 = form (shape_in s.shapes 0);
+  shape2 = form (shape_in s.shapes 1);
+  feature1 = fields_in s.features 0;
+  feature2 = fields_in s.features 1;
+}
 
 -- no shapes, and features with no vertices
 abbrev pub start : State
@@ -68,28 +68,10 @@ abbrev pub with_feature : Which → Fields → State → State
 with_feature First f s = record { shape1 = s.shape1; shape2 = s.shape2; feature1 = f; feature2 = s.feature2 }
 with_feature Second f s = record { shape1 = s.shape1; shape2 = s.shape2; feature1 = s.feature1; feature2 = f }
 
--- a value answered in its own way, a refusal by its number
-abbrev pub replied : {A : Type 0} → (A → Answer) → Refusals.Answer A → Answer
-replied view (done a) = view a
-replied view (refused n) = TurnedDown n
-
 -- the first where the call is done, the second where it is turned down
 abbrev pub if_done : {A B : Type 0} → Refusals.Answer A → B → B → B
 if_done (done a) x y = x
 if_done (refused n) x y = y
-
-abbrev pub formed : {A : Type 0} → Form → Refusals.Answer A → Refusals.Answer (Option Form)
-formed f (done a) = done (Some f)
-formed f (refused n) = refused n
-
-abbrev pub forming : Form → Refusals.Answer (Option Form)
-forming (FormOf.Cylinder hh r) = formed (FormOf.Cylinder hh r) (Cylinders.making hh r)
-forming (FormOf.Cuboid he) = formed (FormOf.Cuboid he) (Cuboids.making he)
-
--- the feature of a shape along a direction
-abbrev pub supported : Form → Vector → Option Vector → Fields
-supported (FormOf.Cylinder hh r) dir hint = Cylinders.cylinder_fields hh r dir (Cylinders.azimuth dir hint)
-supported (FormOf.Cuboid he) dir hint = Cuboids.cuboid_fields he dir
 
 -- A shape that is not there is no refusal: the line cannot be read.
 abbrev pub support_answer : Option Form → Vector → Option Vector → Answer
@@ -100,24 +82,13 @@ abbrev pub support_left : Option Form → Vector → Option Vector → Fields �
 support_left None dir hint old = old
 support_left (Some f) dir hint old = cond (direction_given dir hint) (supported f dir hint) old
 
-abbrev pub row_fields : FeatureRow → Fields
-row_fields r = record { vertices = r.vertices; vids = r.vids; eids = r.eids; fid = r.fid; num_vertices = r.num_vertices }
-
-abbrev pub fields_row : Fields → FeatureRow
-fields_row f = record { vertices = f.vertices; vids = f.vids; eids = f.eids; fid = f.fid; num_vertices = f.num_vertices }
-
-abbrev pub header : FeatureKind → ℕ
-header Vertex = vertex_header
-header Edge = edge_header
-header Face = face_header
-
 abbrev pub answered : Command → State → Answer
 answered Remark s = Nothing
 answered (Shape w f) s = replied (λ _. Done) (forming f)
 answered (Support w dir hint) s = support_answer (shape_at w s) dir hint
-answered (Make w row) s = replied (λ _. Done) (Features.making (row_fields row))
+answered (Make w row) s = replied (λ _. Done) (Features.making row)
 answered (Transform w pose) s = replied (λ _. Done) (moving pose (feature_at w s))
-answered (Show w) s = Feature (fields_row (feature_at w s))
+answered (Show w) s = Feature (feature_at w s)
 answered (Pack kind code) s = replied Packed (packing (header kind) code)
 answered (Clip a b) s = replied Clipped (clipping a b)
 answered (Lines a b) s = replied Meeting (meeting_answer a b)
@@ -128,7 +99,7 @@ abbrev pub performed : Command → State → State
 performed Remark s = s
 performed (Shape w f) s = if_done (forming f) (with_shape w (Some f) s) s
 performed (Support w dir hint) s = with_feature w (support_left (shape_at w s) dir hint (feature_at w s)) s
-performed (Make w row) s = with_feature w (Features.made (row_fields row) (feature_at w s)) s
+performed (Make w row) s = with_feature w (Features.made row (feature_at w s)) s
 performed (Transform w pose) s = with_feature w (moved_or_kept pose (feature_at w s)) s
 performed (Show w) s = s
 performed (Pack kind code) s = s

@@ -1,20 +1,43 @@
-// What a command answers.
+// What a command answers: a reply, or why there is none.
+ghost use Rattle.std.specs.Prelude.{◌≡◌};
+ghost use Rattle.bench.specs.declared.answer.Failure.TheVariants.{TurnedDown, Unreadable};
+
+use math::refusal::Refusal;
 use query::clip_segment_segment::ClippingPoints;
 use script::fault::Fault;
 use shape::feature_id::PackedFeatureId;
 use shape::polygonal_feature3d::FeatureRow;
 
 #[derive(Clone, Copy)]
-pub enum Answer {
+pub enum Reply {
     Nothing,
     Done,
-    // The number of the refusal.
-    TurnedDown(u8),
-    Unreadable(Fault),
     Feature(FeatureRow),
     Packed(PackedFeatureId),
     Clipped(Option<(ClippingPoints, ClippingPoints)>),
     // How far along each line.
     Meeting(Option<(f64, f64)>),
     Root(f64),
+}
+
+#[derive(Clone, Copy, Debug, PartialEq, Eq)]
+pub enum Failure {
+    TurnedDown(Refusal),
+    Unreadable(Fault),
+}
+
+impl From<Refusal> for Failure {
+    ghost from_gives = { λ r f. f ≡ TurnedDown r };
+
+    fn from(refusal: Refusal) -> Failure {
+        Failure::TurnedDown(refusal)
+    }
+}
+
+impl From<Fault> for Failure {
+    ghost from_gives = { λ r f. f ≡ Unreadable r };
+
+    fn from(fault: Fault) -> Failure {
+        Failure::Unreadable(fault)
+    }
 }

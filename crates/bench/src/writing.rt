@@ -1,134 +1,235 @@
 // Answers written as text, at the end of what stands there, which stays. There is an error only where the string had too little room for the text.
-ghost use Rattle.std.specs.Prelude.{◌≡◌, ◌<◌, ◌≤◌, [], ◌∷◌, ◌++◌, is_ok, string_bytes, codes, decimal, OnOk};
+ghost use Rattle.std.specs.Prelude.{◌≡◌, ℕ, ◌<◌, ◌≤◌, [], ◌∷◌, ◌++◌, List, is_ok, string_bytes, decimal, OnOk};
 ghost use Rattle.query.specs.Lines.{digit, hex};
-ghost use Rattle.script.specs.Faults.{worded};
-ghost use Rattle.bench.specs.Texts.{Wrote, Appended, newline, number_text, vector_text, vectors_text, ids_text, row_text, clip_text, clips_text, meeting_text, root_text, written};
+ghost use Rattle.bench.specs.Answers.{told_answer, told_reply, told_failure};
+ghost use Rattle.bench.specs.Texts.{Wrote, Appended, number_text, id_text, vector_text, row_text, clip_text, clip_pair_text, place_pair_text, each_text, option_text, written};
 
-use crate::answer::Answer;
+use crate::answer::{Failure, Reply};
 use math::vector::Vector;
 use query::clip_segment_segment::ClippingPoints;
-use script::fault::Fault;
 use shape::feature_id::PackedFeatureId;
 use shape::polygonal_feature3d::FeatureRow;
 use std::alloc::AllocError;
 use std::num::f64_to_bits_with_nan;
 
-pub fn write_answer(out: &mut String, answer: Answer) -> Result<(), AllocError>
-    ensures text { OnOk result (Wrote (string_bytes out.old) (written answer) (string_bytes out.new)) }
-    ensures appended { Appended out.old (written answer) (is_ok result) out.new }
+pub fn write_answer(out: &mut String, answer: Result<Reply, Failure>) -> Result<(), AllocError>
+    ensures text { OnOk result (Wrote (string_bytes out.old) (written (told_answer answer)) (string_bytes out.new)) }
+    ensures appended { Appended out.old (written (told_answer answer)) (is_ok result) out.new }
 {
     match answer {
-        Answer::Nothing => Ok(()),
-        Answer::Done => put(out, "ok\n"),
-        Answer::TurnedDown(number) => write_refusal(out, number),
-        Answer::Unreadable(fault) => write_fault(out, fault),
-        Answer::Feature(row) => write_row(out, row),
-        Answer::Packed(id) => write_id(out, id),
-        Answer::Clipped(points) => write_clips(out, points),
-        Answer::Meeting(places) => write_meeting(out, places),
-        Answer::Root(v) => write_root(out, v),
+        Ok(reply) => reply.write_to(out),
+        Err(failure) => failure.write_to(out),
     }
 }
 
-fn write_refusal(out: &mut String, number: u8) -> Result<(), AllocError>
-    ensures { Appended out.old (codes "refused " ++ (decimal number ++ newline)) (is_ok result) out.new }
-{
-    put(out, "refused ")?;
-    write_decimal(out, number as u64)?;
-    put(out, "\n")?;
-    Ok(())
-}
+// `Display` would not do: its contract says nothing of a write that fails.
+trait Text: Copy {
+    ghost text: { Self → List ℕ };
 
-fn write_fault(out: &mut String, fault: Fault) -> Result<(), AllocError>
-    ensures { Appended out.old (codes "error: " ++ (worded fault ++ newline)) (is_ok result) out.new }
-{
-    put(out, "error: ")?;
-    put(out, fault.reason())?;
-    put(out, "\n")?;
-    Ok(())
-}
+    fn write_to(&self, out: &mut String) -> Result<(), AllocError>
+        ensures { Appended out.old (text self.now) (is_ok result) out.new };
 
-fn write_id(out: &mut String, id: PackedFeatureId) -> Result<(), AllocError>
-    ensures { Appended out.old (hex 8 id.0 ++ newline) (is_ok result) out.new }
-{
-    write_hex(out, 8, id.0 as u64)?;
-    put(out, "\n")?;
-    Ok(())
-}
-
-fn write_root(out: &mut String, v: f64) -> Result<(), AllocError>
-    ensures { Appended out.old (root_text v) (is_ok result) out.new }
-{
-    if v.is_nan() {
-        return put(out, "nan\n");
-    }
-    write_number(out, v)?;
-    put(out, "\n")?;
-    Ok(())
-}
-
-fn write_row(out: &mut String, row: FeatureRow) -> Result<(), AllocError>
-    ensures { Appended out.old (row_text row) (is_ok result) out.new }
-{
-    write_decimal(out, row.num_vertices as u64)?;
-    write_vectors(out, &row.vertices)?;
-    write_ids(out, &row.vids)?;
-    write_ids(out, &row.eids)?;
-    put(out, " ")?;
-    write_id(out, row.fid)?;
-    Ok(())
-}
-
-fn write_clips(
-    out: &mut String,
-    points: Option<(ClippingPoints, ClippingPoints)>,
-) -> Result<(), AllocError>
-    ensures { Appended out.old (clips_text points) (is_ok result) out.new }
-{
-    match points {
-        None => put(out, "none\n"),
-        Some(both) => {
-            write_clip(out, both.0)?;
-            write_clip(out, both.1)?;
-            Ok(())
+    final fn then<B: Text>(self, second: B) -> Then<Self, B>
+        ensures first { result.first ≡ self }
+        ensures second { result.second ≡ second }
+    {
+        Then {
+            first: self,
+            second,
         }
     }
 }
 
-fn write_clip(out: &mut String, points: ClippingPoints) -> Result<(), AllocError>
-    ensures { Appended out.old (clip_text points) (is_ok result) out.new }
-{
-    write_vector(out, points.0)?;
-    put(out, " ")?;
-    write_vector(out, points.1)?;
-    put(out, " ")?;
-    write_decimal(out, points.2 as u64)?;
-    put(out, " ")?;
-    write_decimal(out, points.3 as u64)?;
-    put(out, "\n")?;
-    Ok(())
+// A text and the one behind it.
+#[derive(Clone, Copy)]
+struct Then<A, B> {
+    first: A,
+    second: B,
 }
 
-fn write_meeting(out: &mut String, places: Option<(f64, f64)>) -> Result<(), AllocError>
-    ensures { Appended out.old (meeting_text places) (is_ok result) out.new }
-{
-    match places {
-        None => put(out, "none\n"),
-        Some(both) => {
-            write_number(out, both.0)?;
-            put(out, " ")?;
-            write_number(out, both.1)?;
-            put(out, "\n")?;
-            Ok(())
+impl<A: Text, B: Text> Text for Then<A, B> {
+    ghost text = { λ t. A.text t.first ++ B.text t.second };
+
+    fn write_to(&self, out: &mut String) -> Result<(), AllocError> {
+        self.first.write_to(out)?;
+        self.second.write_to(out)
+    }
+}
+
+// Texts with a space before each.
+#[derive(Clone, Copy)]
+struct Each<'a, T> {
+    items: &'a [T],
+}
+
+impl<T: Text> Text for Each<'_, T> {
+    ghost text = { λ e. each_text T.text e.items.now };
+
+    fn write_to(&self, out: &mut String) -> Result<(), AllocError> {
+        for item in self.items {
+            " ".then(*item).write_to(out)?;
+        }
+        Ok(())
+    }
+}
+
+impl<T: Text> Text for Option<T> {
+    ghost text = { option_text T.text };
+
+    fn write_to(&self, out: &mut String) -> Result<(), AllocError> {
+        match self {
+            Some(found) => found.write_to(out),
+            None => "none\n".write_to(out),
         }
     }
 }
 
-// Text as it stands.
-fn put(out: &mut String, text: &str) -> Result<(), AllocError>
-    ensures { Appended out.old text.now (is_ok result) out.new }
+impl Text for &str {
+    ghost text = { λ s. s.now };
+
+    fn write_to(&self, out: &mut String) -> Result<(), AllocError> {
+        out.push_str(self)
+    }
+}
+
+impl Text for usize {
+    ghost text = { decimal };
+
+    fn write_to(&self, out: &mut String) -> Result<(), AllocError> {
+        out.push_str(itoa::Buffer::new().format(*self))
+    }
+}
+
+// The sixteen digits of its bits.
+impl Text for f64 {
+    ghost text = { number_text };
+
+    fn write_to(&self, out: &mut String) -> Result<(), AllocError> {
+        write_hex(out, 16, f64_to_bits_with_nan(*self))
+    }
+}
+
+impl Text for PackedFeatureId {
+    ghost text = { id_text };
+
+    fn write_to(&self, out: &mut String) -> Result<(), AllocError> {
+        write_hex(out, 8, self.0 as u64)
+    }
+}
+
+impl Text for Vector {
+    ghost text = { vector_text };
+
+    fn write_to(&self, out: &mut String) -> Result<(), AllocError> {
+        self.x
+            .then(" ")
+            .then(self.y)
+            .then(" ")
+            .then(self.z)
+            .write_to(out)
+    }
+}
+
+impl Text for FeatureRow {
+    ghost text = { row_text };
+
+    fn write_to(&self, out: &mut String) -> Result<(), AllocError> {
+        self.num_vertices
+            .then(Each {
+                items: &self.vertices,
+            })
+            .then(Each { items: &self.vids })
+            .then(Each { items: &self.eids })
+            .then(" ")
+            .then(self.fid)
+            .then("\n")
+            .write_to(out)
+    }
+}
+
+impl Text for ClippingPoints {
+    ghost text = { clip_text };
+
+    fn write_to(&self, out: &mut String) -> Result<(), AllocError> {
+        self.0
+            .then(" ")
+            .then(self.1)
+            .then(" ")
+            .then(self.2)
+            .then(" ")
+            .then(self.3)
+            .then("\n")
+            .write_to(out)
+    }
+}
+
+impl Text for (ClippingPoints, ClippingPoints) {
+    ghost text = { clip_pair_text };
+
+    fn write_to(&self, out: &mut String) -> Result<(), AllocError> {
+        self.0.then(self.1).write_to(out)
+    }
+}
+
+impl Text for (f64, f64) {
+    ghost text = { place_pair_text };
+
+    fn write_to(&self, out: &mut String) -> Result<(), AllocError> {
+        self.0.then(" ").then(self.1).then("\n").write_to(out)
+    }
+}
+
+impl Text for Reply {
+    ghost text = { λ r. written (told_reply r) };
+
+    fn write_to(&self, out: &mut String) -> Result<(), AllocError> {
+        match *self {
+            Reply::Nothing => Ok(()),
+            Reply::Done => "ok\n".write_to(out),
+            Reply::Feature(row) => row.write_to(out),
+            Reply::Packed(id) => id.then("\n").write_to(out),
+            Reply::Clipped(points) => points.write_to(out),
+            Reply::Meeting(places) => places.write_to(out),
+            Reply::Root(v) => {
+                if v.is_nan() {
+                    "nan\n".write_to(out)
+                } else {
+                    v.then("\n").write_to(out)
+                }
+            }
+        }
+    }
+}
+
+impl Text for Failure {
+    ghost text = { λ f. written (told_failure f) };
+
+    fn write_to(&self, out: &mut String) -> Result<(), AllocError> {
+        match *self {
+            Failure::TurnedDown(refusal) => {
+                "refused "
+                    .then(usize::from(u8::from(refusal)))
+                    .then("\n")
+                    .write_to(out)
+            }
+            Failure::Unreadable(fault) => {
+                "error: ".then(fault.reason()).then("\n").write_to(out)
+            }
+        }
+    }
+}
+
+// The lowest `digits` digits of `value`, highest first.
+#[tactic(auto, using(query::proofs::Buffers::hex_more, crate::proofs::Joins::hex_front_none, crate::proofs::Joins::length_hex_front), unfolding(query::specs::Lines::hex))]
+fn write_hex(out: &mut String, digits: usize, value: u64) -> Result<(), AllocError>
+    requires { digits ≤ 16 }
+    ensures { Appended out.old (hex digits value) (is_ok result) out.new }
 {
-    out.push_str(text)
+    for i in 0..digits {
+        let nibble = (value >> (4 * (digits - 1 - i))) % 16;
+        put_char(out, hex_digit(nibble as u32))?;
+    }
+    Ok(())
 }
 
 // A character that is one byte.
@@ -139,76 +240,10 @@ fn put_char(out: &mut String, c: char) -> Result<(), AllocError>
     out.push(c)
 }
 
-// A space before each.
-fn write_vectors(out: &mut String, vectors: &[Vector]) -> Result<(), AllocError>
-    ensures { Appended out.old (vectors_text vectors.now) (is_ok result) out.new }
-{
-    for v in vectors {
-        put(out, " ")?;
-        write_vector(out, *v)?;
-    }
-    Ok(())
-}
-
-// A space before each.
-fn write_ids(out: &mut String, ids: &[PackedFeatureId]) -> Result<(), AllocError>
-    ensures { Appended out.old (ids_text ids.now) (is_ok result) out.new }
-{
-    for id in ids {
-        put(out, " ")?;
-        write_hex(out, 8, id.0 as u64)?;
-    }
-    Ok(())
-}
-
-fn write_vector(out: &mut String, v: Vector) -> Result<(), AllocError>
-    ensures { Appended out.old (vector_text v) (is_ok result) out.new }
-{
-    write_number(out, v.x)?;
-    put(out, " ")?;
-    write_number(out, v.y)?;
-    put(out, " ")?;
-    write_number(out, v.z)?;
-    Ok(())
-}
-
-// The sixteen digits of its bits.
-fn write_number(out: &mut String, x: f64) -> Result<(), AllocError>
-    ensures { Appended out.old (number_text x) (is_ok result) out.new }
-{
-    write_hex(out, 16, f64_to_bits_with_nan(x))
-}
-
-fn write_decimal(out: &mut String, n: u64) -> Result<(), AllocError>
-    ensures { Appended out.old (decimal n) (is_ok result) out.new }
-{
-    if n < 10 {
-        return put_char(out, (b'0' + n as u8) as char);
-    }
-    write_decimal(out, n / 10)?;
-    put_char(out, (b'0' + (n % 10) as u8) as char)
-}
-
-// The lowest `digits` digits of `value`, highest first.
-fn write_hex(out: &mut String, digits: usize, value: u64) -> Result<(), AllocError>
-    requires { digits ≤ 16 }
-    ensures { Appended out.old (hex digits value) (is_ok result) out.new }
-{
-    for i in 0..digits {
-        let nibble = (value >> (4 * (digits - 1 - i))) % 16;
-        put_char(out, hex_digit(nibble as u8))?;
-    }
-    Ok(())
-}
-
-fn hex_digit(nibble: u8) -> char
+fn hex_digit(nibble: u32) -> char
     requires { nibble < 16 }
     ensures value { result ≡ digit nibble }
     ensures bound { result < 128 }
 {
-    if nibble < 10 {
-        (b'0' + nibble) as char
-    } else {
-        (b'a' + (nibble - 10)) as char
-    }
+    char::from_digit(nibble, 16).unwrap()
 }

@@ -6,28 +6,16 @@ use bench::{help, writing};
 use std::io::{BufRead, BufReader, Write};
 
 fn main(rt: HostRuntime) -> anyhow::Result<()> {
-    run(&rt)
-}
-
-fn run(rt: &HostRuntime) -> anyhow::Result<()> {
     let heap = rt.alloc();
     let mut session = Session::new();
-    let mut input = BufReader::new(heap, rt.stdin())?;
-    let mut line = Vec::new(heap);
     let mut text = String::new(heap);
-    for count in 0..u64::MAX {
-        line.clear();
+    let mut lines = BufReader::new(heap, rt.stdin())?.split(heap, b'\n').peekable();
+    if lines.peek().is_none() {
+        rt.stdout().write_all(help::HELP.as_bytes())?;
+    }
+    for line in lines {
         text.clear();
-        if input.read_until(b'\n', &mut line)? == 0 {
-            if count == 0 {
-                rt.stdout().write_all(help::HELP.as_bytes())?;
-            }
-            break;
-        }
-        if line.last() == Some(&b'\n') {
-            line.pop();
-        }
-        writing::write_answer(&mut text, session.run_line(&line))?;
+        writing::write_answer(&mut text, session.run_line(&line?))?;
         rt.stdout().write_all(text.as_bytes())?;
     }
     Ok(())

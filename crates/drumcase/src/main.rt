@@ -1,7 +1,7 @@
 // Two cylinders meet side by side, and each contact between them is written as a contact line.
 #![tactic(auto)]
 
-use anyhow::anyhow;
+use anyhow::Context;
 use math::pose::{Pose, Rotation};
 use math::refusal::Refusal;
 use math::vector::Vector;
@@ -12,26 +12,15 @@ use query::{contact_line, polygonal_contacts};
 use shape::cylinder::Cylinder;
 use shape::polygonal_feature_map::PolygonalFeatureMap;
 use shape::polygonal_feature3d::PolygonalFeature;
+use std::io;
 use std::io::Write;
 
 type Contact = TrackedContact<TouchRecord>;
 
 fn main(rt: HostRuntime) -> anyhow::Result<()> {
-    run(&rt)
-}
-
-fn run(rt: &HostRuntime) -> anyhow::Result<()> {
-    print_contacts(rt, meet()?)
-}
-
-fn print_contacts(rt: &HostRuntime, contacts: Option<(Contact, Contact)>) -> anyhow::Result<()> {
-    match contacts {
-        Some(both) => {
-            print_contact(rt, &both.0)?;
-            print_contact(rt, &both.1)
-        }
-        None => Err(anyhow!("the cylinders do not meet")),
-    }
+    let (first, second) = meet()?.context("the cylinders do not meet")?;
+    print_contact(&rt, &first)?;
+    print_contact(&rt, &second)
 }
 
 // Cylinders of half height 2 and radius 1, the second moved by 1.75 along x, without a turn.
@@ -50,9 +39,9 @@ fn meet() -> Result<Option<(Contact, Contact)>, Refusal> {
     polygonal_contacts::contacts_edge_edge(&pos12, &feature1, axis1, &feature2, false)
 }
 
-fn print_contact(rt: &HostRuntime, contact: &Contact) -> anyhow::Result<()> {
+fn print_contact(rt: &impl Print, contact: &Contact) -> anyhow::Result<()> {
     let mut buffer = [0u8; CONTACT_LINE_LEN];
     contact_line::contact_line(contact, &mut buffer)?;
-    rt.stdout().write_all(&buffer)?;
+    io::writer(rt).write_all(&buffer)?;
     Ok(())
 }
