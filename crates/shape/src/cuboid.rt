@@ -25,6 +25,7 @@ impl Cuboid {
     ghost use Rattle.shape.specs.Supports.{direction_given, supporting};
     ghost use Rattle.shape.specs.Cuboids.{extents_of, making, main_axis_of, AroundFace, ExactlyAround, Supporting, cuboid_fields};
 
+    #[tactic(auto, using(crate::proofs::Cuboids::sized))]
     pub fn new(half_extents: Vector) -> Result<Cuboid, Refusal>
         ensures { told_as extents_of result ≡ making half_extents }
     {

@@ -41,6 +41,7 @@ struct Azimuth {
 }
 
 // From the hint where it lies off the axis, else from the direction, else along x.
+#[tactic(auto, unfolding(crate::specs::Cylinders::azimuth))]
 fn feature_azimuth(dir: Vector, hint: Option<Vector>) -> Azimuth
     requires { direction_given dir hint ≡ true }
     ensures { result.along ≡ azimuth dir hint }
@@ -72,6 +73,7 @@ impl Cylinder {
     }
 
     // The curved side is one segment, each cap a square on its rim.
+    #[tactic(auto, unfolding(crate::specs::Cylinders::cylinder_fields))]
     fn support_feature_with_azimuth(
         &self,
         dir: Vector,
@@ -87,6 +89,7 @@ impl Cylinder {
         }
     }
 
+    #[tactic(auto, unfolding(crate::specs::Cylinders::side))]
     fn side_segment(&self, azimuth: Azimuth, out_features: &mut PolygonalFeature)
         ensures { fields out_features.new ≡ side self.now.half_height self.now.radius azimuth.along }
     {
@@ -145,6 +148,7 @@ impl PolygonalFeatureMap for Cylinder {
     }
 }
 
+#[tactic(auto, unfolding(crate::specs::Cuboids::cuboid_meaning))]
 impl PolygonalFeatureMap for Cuboid {
     ghost meaning = { cuboid_meaning };
 

@@ -1,7 +1,6 @@
 -- The test of the numbers decides whether the place is written; the vertices stand as those of the meaning do.
-use Rattle.std.proofs.Common.{◌≡◌, false, cond, sym, ap, ◌∙◌, subst, rules}
-use Rattle.std.proofs.lemmas.Bool.{both_ways}
-use Rattle.math.specs.Refusals.{done, refused}
+use Rattle.std.proofs.Common.{◌≡◌, cond, sym, ap, ◌∙◌, subst, rules}
+use Rattle.math.specs.Refusals.{done}
 use Rattle.shape.specs.Cylinders.{azimuth, cylinder_fields, cylinder_meaning, StandsAt}
 use Rattle.shape.specs.Features.{Fields, fields}
 use Rattle.shape.specs.Supports.{direction_given, supporting}
