@@ -63,8 +63,12 @@ packs_under h id t =
     let as-id : ℕ → PackedFeatureId = λ n. record { 0 = n } in
     cond-true (ltb (id.0 % 2 ^ 30) (2 ^ 30)) (done (packed h (id.0 % 2 ^ 30))) (refused 7) (lt-ltb _ _ fits) ∙ ap (λ (n : ℕ). done (as-id n)) whole
 
+-- the same by the mask
+pub packs_masked : (h : ℕ) (id : PackedFeatureId) → has_header h id ≡ true → packing h (bit_and id.0 (2 ^ 30 - 1)) ≡ done id
+packs_masked h id t = ap (packing h) (and_mask id.0 30) ∙ packs_under h id t
+
 -- 32 bits at or above 2^30 have one of the three headers
-no_header : (id : PackedFeatureId) → id.0 < 2 ^ 32 → 2 ^ 30 ≤ id.0 → has_header vertex_header id ≡ false → has_header edge_header id ≡ false → has_header face_header id ≡ false → ⊥
+pub no_header : (id : PackedFeatureId) → id.0 < 2 ^ 32 → 2 ^ 30 ≤ id.0 → has_header vertex_header id ≡ false → has_header edge_header id ≡ false → has_header face_header id ≡ false → ⊥
 no_header id small large v e f =
     let a = eqb-false (id.0 / 2 ^ 30) 1 v in
     let b = eqb-false (id.0 / 2 ^ 30) 2 e in

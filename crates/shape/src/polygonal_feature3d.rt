@@ -95,6 +95,7 @@ impl PolygonalFeature {
     }
 
     // The used vertices where the pose takes them; unused vertices and all ids stay. Turned down with 2 where a number of the pose may not be given, with 4 where its rotation is off unit length, with 8 where a used vertex would go beyond 2^21.
+    #[tactic(auto, using(std::proofs::lemmas::List::Edits::map_over_more))]
     pub fn transform_by(&mut self, pos: &Pose) -> Result<(), Refusal>
         ensures answer { told result ≡ moving pos.now (fields self.old) }
         ensures after { fields self.new ≡ moved_or_kept pos.now (fields self.old) }

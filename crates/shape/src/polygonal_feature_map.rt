@@ -109,6 +109,7 @@ impl Cylinder {
         };
     }
 
+    #[tactic(auto, unfolding(crate::specs::Cylinders::cap, crate::specs::Cylinders::bottom, crate::specs::Cylinders::top))]
     fn cap_square(&self, dir: Vector, azimuth: Azimuth, out_features: &mut PolygonalFeature)
         ensures { fields out_features.new ≡ cap self.now.half_height self.now.radius dir azimuth.along }
     {

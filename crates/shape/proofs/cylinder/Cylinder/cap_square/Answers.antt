@@ -13,7 +13,3 @@ invariant_of-out_features c =
     let az = c.args.azimuth.along in
     let made : (c.new.result ∷ c.new-2.result ∷ c.new-3.result ∷ c.new-4.result ∷ []) ≡ rim (signed c.args.dir.y k.half_height) k.radius az = cc in
     record { near = ap near_all made ∙ rim_near k.half_height k.radius az k.tall k.round c.args.azimuth.short c.args.dir.y; few = omega arith }
-
-pub returns : goal.returns
-unfolding cap bottom top
-returns c = elim c.if-dir.branch [ then-dir w ↦ search rules | else-dir w ↦ search rules ]

@@ -13,7 +13,3 @@ invariant_of-out_features c =
     let az = c.args.azimuth.along in
     let made : (c.new-lower.result ∷ c.new-upper.result ∷ origin ∷ origin ∷ []) ≡ (side k.half_height k.radius az).vertices = cc in
     record { near = ap near_all made ∙ side_near k.half_height k.radius az k.tall k.round c.args.azimuth.short; few = omega arith }
-
-pub returns : goal.returns
-unfolding side
-returns c = cc
