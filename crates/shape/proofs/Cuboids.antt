@@ -20,7 +20,7 @@ use Rattle.shape.specs.declared.cuboid.face.Side.{Side}
 use Rattle.shape.specs.declared.cuboid.face.Side.TheVariants.{Negative, Positive}
 use Rattle.shape.specs.Features.{unknown}
 use Rattle.shape.specs.Ids.{packed, four_codes, vertex_header, edge_header, face_header}
-use Rattle.shape.specs.Nearness.{vertex_limit, vertex_at, all_within, near_all}
+use Rattle.shape.specs.Nearness.{vertex_limit, vertex_at, near_all}
 use Rattle.shape.specs.Sizes.{is_size, are_sizes}
 use Rattle.shape.proofs.Cases.{of_three, of_four}
 use Rattle.shape.proofs.Near.{given_near, size_given, point, from_four}

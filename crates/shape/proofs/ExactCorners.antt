@@ -1,5 +1,5 @@
 -- Each vertex of a cuboid's face is exactly a corner of the cuboid: a product by 1 or -1 is exact, so across the face the half extent is kept or turned.
-use Rattle.std.proofs.Common.{◌≡◌, ℕ, ◌<◌, Bool, true, false, cond, T, eqb, List, sym, refl, ◌∙◌, subst, inl, inr}
+use Rattle.std.proofs.Common.{◌≡◌, ℕ, Bool, true, false, cond, T, eqb, List, sym, refl, subst, inl, inr}
 use lib.Ieee.{Float, binary64, of_bits, neg, fits}
 use Rattle.std.specs.Float.{float_with_sign, is_sign_negative}
 use Rattle.std.proofs.lemmas.Bool.{cond_both, cases_Bool, eqb-true, eqb-false}
@@ -8,9 +8,7 @@ use Rattle.math.specs.Floats.{◌⊗◌, opposite, one}
 use Rattle.math.specs.Vectors.{coordinate}
 use Rattle.math.specs.declared.vector.Vector.{Vector}
 use Rattle.math.proofs.TimesOne.{times_one, times_minus_one}
-use Rattle.shape.specs.Cuboids.{main_axis_of, side_of, face_vertices_of, PlusOrMinus, on_side, Across, FaceCorner, AroundFace, ExactCorner, ExactlyAround}
-use Rattle.shape.specs.Nearness.{vertex_at}
-use Rattle.shape.proofs.Cases.{of_three, of_four}
+use Rattle.shape.specs.Cuboids.{main_axis_of, side_of, PlusOrMinus, on_side, Across, FaceCorner, AroundFace, ExactCorner, ExactlyAround}
 
 one_on_side : (b : Bool) → float_with_sign b one ≡ on_side (cond b 0 1) one
 unfolding of_bits float_with_sign neg

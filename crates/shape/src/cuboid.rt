@@ -59,6 +59,7 @@ impl Cuboid {
     }
 
     // The face across the axis along which the direction is largest in size, on the side of its sign there.
+    #[tactic(auto, using(crate::proofs::Cuboids::supports, crate::proofs::Cuboids::first_largest, crate::proofs::Cuboids::sizes_number))]
     pub fn support_face(
         &self,
         local_dir: Vector,

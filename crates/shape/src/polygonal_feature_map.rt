@@ -54,6 +54,7 @@ fn feature_azimuth(dir: Vector, hint: Option<Vector>) -> Azimuth
 }
 
 impl Cylinder {
+    #[tactic(auto, using(crate::proofs::Turns::azimuth_from, crate::proofs::Turns::stands), unfolding(crate::specs::Cylinders::cylinder_meaning))]
     pub fn support_feature(
         &self,
         dir: Vector,
@@ -89,7 +90,7 @@ impl Cylinder {
         }
     }
 
-    #[tactic(auto, unfolding(crate::specs::Cylinders::side))]
+    #[tactic(auto, using(crate::proofs::Near::side_near), unfolding(crate::specs::Cylinders::side))]
     fn side_segment(&self, azimuth: Azimuth, out_features: &mut PolygonalFeature)
         ensures { fields out_features.new ≡ side self.now.half_height self.now.radius azimuth.along }
     {
@@ -109,7 +110,7 @@ impl Cylinder {
         };
     }
 
-    #[tactic(auto, unfolding(crate::specs::Cylinders::cap, crate::specs::Cylinders::bottom, crate::specs::Cylinders::top))]
+    #[tactic(auto, using(crate::proofs::Near::rim_near), unfolding(crate::specs::Cylinders::cap, crate::specs::Cylinders::bottom, crate::specs::Cylinders::top))]
     fn cap_square(&self, dir: Vector, azimuth: Azimuth, out_features: &mut PolygonalFeature)
         ensures { fields out_features.new ≡ cap self.now.half_height self.now.radius dir azimuth.along }
     {

@@ -1,12 +1,8 @@
 -- The moved vertices are those of `moved`, and the test of them is `all_land_near`.
-use Rattle.std.proofs.Common.{◌≡◌, ◌<◌, true, false, length, sym, ap, ◌∙◌, arith, rules}
-use Rattle.math.specs.Poses.{transformed}
+use Rattle.std.proofs.Common.{◌≡◌, true, false, length, sym, ap, ◌∙◌, arith, rules}
 use Rattle.shape.specs.Features.{fields}
 use Rattle.shape.specs.Moves.{moved, all_land_near}
 use Rattle.shape.specs.Nearness.{near_all}
-use Rattle.std.proofs.Math.ListN.{set}
-use Rattle.std.proofs.lemmas.List.{get_or_default}
-use Rattle.std.proofs.lemmas.List.Edits.{map_over_more}
 use Rattle.shape.proofs.Moves.{near_moved, moved_in_place}
 use Rattle.shape.proofs.polygonal_feature3d.PolygonalFeature.transform_by.Goals as goal
 
