@@ -7,7 +7,7 @@ use math::vector::Vector;
 use shape::feature_id::PackedFeatureId;
 use std::alloc::AllocError;
 
-#[derive(Drop)]
+#[derive(Copy, Drop, PartialEq)]
 pub struct TrackedContact<D> {
     pub local_p1: Vector,
     pub local_p2: Vector,
@@ -27,8 +27,6 @@ impl<D: Copy> Clone for TrackedContact<D> {
         Ok(*self)
     }
 }
-
-impl<D: Copy> Copy for TrackedContact<D> {}
 
 impl<D: ContactData> TrackedContact<D> {
     ghost use Rattle.query.specs.Contacts.{seen, fresh, turned};
