@@ -101,10 +101,10 @@ support_left None dir hint old = old
 support_left (Some f) dir hint old = cond (direction_given dir hint) (supported f dir hint) old
 
 abbrev pub row_fields : Row → Fields
-row_fields r = record { vertices = r.vertices; vids = r.vids; eids = r.eids; fid = r.fid; count = r.num_vertices }
+row_fields r = record { vertices = r.vertices; vids = r.vids; eids = r.eids; fid = r.fid; num_vertices = r.num_vertices }
 
 abbrev pub fields_row : Fields → Row
-fields_row f = record { vertices = f.vertices; vids = f.vids; eids = f.eids; fid = f.fid; num_vertices = f.count }
+fields_row f = record { vertices = f.vertices; vids = f.vids; eids = f.eids; fid = f.fid; num_vertices = f.num_vertices }
 
 abbrev pub header : IdKind → ℕ
 header Vertex = vertex_header

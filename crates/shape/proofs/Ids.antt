@@ -1,12 +1,20 @@
 -- Ids and what they stand for: a quotient and a remainder by 2^30, so that packing and unpacking undo each other.
-use Rattle.std.proofs.Common.{◌≡◌, ℕ, ◌+◌, ◌*◌, ◌/◌, ◌%◌, ◌^◌, ◌<◌, ◌≤◌, true, false, cond, eqb, ltb, sym, ap, ◌∙◌, inl, inr, arith}
-use Rattle.std.proofs.lemmas.Nat.{shr_high, mod_low, shr_split, mod_below, pow_pos, le-div, div_below}
-use Rattle.std.proofs.lemmas.Bool.{cases_Bool, ltb-true, lt-ltb, eqb-true, eqb-false, cond-true}
+use Rattle.std.proofs.Common.{◌≡◌, ℕ, zero, suc, ◌+◌, ◌-◌, ◌*◌, ◌/◌, ◌%◌, ◌^◌, ◌<◌, ◌≤◌, Bool, true, false, cond, eqb, ltb, Some, None, Option, sym, refl, ap, ◌∙◌, subst, inl, inr, arith}
+use Rattle.std.specs.Int.Bits.{bit_and, bit_or}
+use Rattle.std.specs.Option.{option_eq, option_map_or}
+use Rattle.std.proofs.lemmas.Nat.{shr_high, mod_low, shr_split, mod_below, pow_pos, le-div, div_below, and_mask, or_shifted}
+use Rattle.std.proofs.lemmas.Bool.{cases_Bool, ltb-true, lt-ltb, eqb-true, eqb-false, ne_eqb, cond-true}
 use Rattle.math.specs.Refusals.{done, refused}
-use Rattle.shape.specs.Ids.{vertex_header, edge_header, face_header, packed, packing, unpacked, has_header, OnlyFrom}
+use Rattle.shape.specs.Ids.{vertex_header, edge_header, face_header, header, packed, packing, has_header, kind_of, feature_of, unpacked, repacking, OnlyFrom, PacksBack}
 use Rattle.shape.specs.declared.feature_id.FeatureId.{FeatureId}
-use Rattle.shape.specs.declared.feature_id.FeatureId.TheVariants.{Vertex, Edge, Face, Unknown}
+use Rattle.shape.specs.declared.feature_id.FeatureId.TheVariants.{Unknown}
+use Rattle.shape.specs.declared.feature_id.FeatureKind.{FeatureKind}
+use Rattle.shape.specs.declared.feature_id.FeatureKind.TheVariants as KindOf
 use Rattle.shape.specs.declared.feature_id.PackedFeatureId.{PackedFeatureId}
+use Rattle.shape.specs.contracts.feature_id.FeatureKindPartialEq.TheImpl.{eq-value}
+
+abbrev packed_as : ℕ → PackedFeatureId
+packed_as n = record { 0 = n }
 
 module _ (h c : ℕ) (l : c < 2 ^ 30) where
   pub header_of : (packed h c).0 / 2 ^ 30 ≡ h
@@ -17,13 +25,17 @@ module _ (h c : ℕ) (l : c < 2 ^ 30) where
   unfolding packed
   code_of = mod_low h 30 c l
 
--- the kind that a header tells
-abbrev kind : ℕ → ℕ → FeatureId
-kind h c = cond (eqb h vertex_header) (Vertex c) (cond (eqb h edge_header) (Edge c) (cond (eqb h face_header) (Face c) Unknown))
+-- a header has no bit in common with a code, so setting its bits adds it
+pub under_header : (n h c : ℕ) → n ≡ h * 2 ^ 30 → c < 2 ^ 30 → packed_as (bit_or n c) ≡ packed h c
+unfolding packed
+under_header n h c e l = ap (λ (m : ℕ). packed_as (bit_or m c)) e ∙ ap packed_as (or_shifted h 30 c l)
 
-pub unpacked_packed : (h c : ℕ) → c < 2 ^ 30 → unpacked (packed h c) ≡ kind h c
+-- an id made of a kind and a code unpacks to them
+pub unpacks : (kind : FeatureKind) (c : ℕ) → c < 2 ^ 30 → unpacked (packed (header kind) c) ≡ feature_of kind c
 unfolding unpacked
-unpacked_packed h c l = let e = header_of h c l in let d = code_of h c l in cc
+unpacks KindOf.Vertex c l = let e = header_of 1 c l in let d = code_of 1 c l in cc
+unpacks KindOf.Edge c l = let e = header_of 2 c l in let d = code_of 2 c l in cc
+unpacks KindOf.Face c l = let e = header_of 3 c l in let d = code_of 3 c l in cc
 
 pub only_from : (h c : ℕ) → c < 2 ^ 30 → OnlyFrom (done (packed h c)) h c
 only_from h c l k d e =
@@ -41,9 +53,9 @@ only_from h c l k d e =
     never : ltb d (2 ^ 30) ≡ false → ⊥
     never f = let z : ◌≡◌ {A = ℕ} 0 1 = cc in omega arith
 
-pub packs_back : (h : ℕ) (id : PackedFeatureId) → has_header h id ≡ true → packing h (id.0 % 2 ^ 30) ≡ done id
+packs_under : (h : ℕ) (id : PackedFeatureId) → has_header h id ≡ true → packing h (id.0 % 2 ^ 30) ≡ done id
 unfolding packed
-packs_back h id t =
+packs_under h id t =
     let e = eqb-true (id.0 / 2 ^ 30) h t in
     let s = shr_split id.0 30 in
     let whole : h * 2 ^ 30 + id.0 % 2 ^ 30 ≡ id.0 = ap (λ (n : ℕ). n * 2 ^ 30 + id.0 % 2 ^ 30) (sym e) ∙ s in
@@ -52,7 +64,7 @@ packs_back h id t =
     cond-true (ltb (id.0 % 2 ^ 30) (2 ^ 30)) (done (packed h (id.0 % 2 ^ 30))) (refused 7) (lt-ltb _ _ fits) ∙ ap (λ (n : ℕ). done (as-id n)) whole
 
 -- 32 bits at or above 2^30 have one of the three headers
-pub no_header : (id : PackedFeatureId) → id.0 < 2 ^ 32 → 2 ^ 30 ≤ id.0 → has_header vertex_header id ≡ false → has_header edge_header id ≡ false → has_header face_header id ≡ false → ⊥
+no_header : (id : PackedFeatureId) → id.0 < 2 ^ 32 → 2 ^ 30 ≤ id.0 → has_header vertex_header id ≡ false → has_header edge_header id ≡ false → has_header face_header id ≡ false → ⊥
 no_header id small large v e f =
     let a = eqb-false (id.0 / 2 ^ 30) 1 v in
     let b = eqb-false (id.0 / 2 ^ 30) 2 e in
@@ -61,19 +73,55 @@ no_header id small large v e f =
     let high = div_below id.0 (2 ^ 30) 4 (pow_pos 30) small in
     omega (arith, a, b, d)
 
-module _ (id : PackedFeatureId) where
-  pub as_vertex : has_header vertex_header id ≡ true → unpacked id ≡ Vertex (id.0 % 2 ^ 30)
-  unfolding unpacked
-  as_vertex v = cc
+pub packs_back : (id : PackedFeatureId) → id.0 < 2 ^ 32 → PacksBack id (unpacked id)
+unfolding unpacked
+packs_back id small large = go (has_header vertex_header id) (has_header edge_header id) (has_header face_header id) refl refl refl
+  where
+    c : ℕ
+    c = id.0 % 2 ^ 30
 
-  pub as_edge : has_header vertex_header id ≡ false → has_header edge_header id ≡ true → unpacked id ≡ Edge (id.0 % 2 ^ 30)
-  unfolding unpacked
-  as_edge v e = cc
+    go : (v e f : Bool) → has_header vertex_header id ≡ v → has_header edge_header id ≡ e → has_header face_header id ≡ f → repacking (option_map_or (λ (k : FeatureKind). feature_of k c) (cond v (Some KindOf.Vertex) (cond e (Some KindOf.Edge) (cond f (Some KindOf.Face) None))) Unknown) ≡ done id
+    go true e f p q r = packs_under vertex_header id p
+    go false true f p q r = packs_under edge_header id q
+    go false false true p q r = packs_under face_header id r
+    go false false false p q r = absurd (no_header id small large p q r)
 
-  pub as_face : has_header vertex_header id ≡ false → has_header edge_header id ≡ false → has_header face_header id ≡ true → unpacked id ≡ Face (id.0 % 2 ^ 30)
-  unfolding unpacked
-  as_face v e f = cc
+-- the test of the kind is the test of its header
+pub is_kind : (kind : FeatureKind) (id : PackedFeatureId) → option_eq eq-value.it (kind_of id) (Some kind) ≡ has_header (header kind) id
+is_kind kind id = go (id.0 / 2 ^ 30) kind
+  where
+    below : (kind : FeatureKind) → header kind < 4
+    below KindOf.Vertex = omega arith
+    below KindOf.Edge = omega arith
+    below KindOf.Face = omega arith
 
-  pub as_unknown : has_header vertex_header id ≡ false → has_header edge_header id ≡ false → has_header face_header id ≡ false → unpacked id ≡ Unknown
-  unfolding unpacked
-  as_unknown v e f = cc
+    other : (n k : ℕ) → k < 4 → eqb (suc (suc (suc (suc n)))) k ≡ false
+    other n k l = ne_eqb _ k (λ e. omega arith)
+
+    go : (n : ℕ) (kind : FeatureKind) → option_eq eq-value.it (cond (eqb n 1) (Some KindOf.Vertex) (cond (eqb n 2) (Some KindOf.Edge) (cond (eqb n 3) (Some KindOf.Face) None))) (Some kind) ≡ eqb n (header kind)
+    go zero KindOf.Vertex = refl
+    go zero KindOf.Edge = refl
+    go zero KindOf.Face = refl
+    go (suc zero) KindOf.Vertex = refl
+    go (suc zero) KindOf.Edge = refl
+    go (suc zero) KindOf.Face = refl
+    go (suc (suc zero)) KindOf.Vertex = refl
+    go (suc (suc zero)) KindOf.Edge = refl
+    go (suc (suc zero)) KindOf.Face = refl
+    go (suc (suc (suc zero))) KindOf.Vertex = refl
+    go (suc (suc (suc zero))) KindOf.Edge = refl
+    go (suc (suc (suc zero))) KindOf.Face = refl
+    go (suc (suc (suc (suc n)))) kind =
+        let a = other n 1 (omega arith) in
+        let b = other n 2 (omega arith) in
+        let c = other n 3 (omega arith) in
+        let d = other n (header kind) (below kind) in
+        cc
+
+-- what stands for the kind and the code, by the mask
+pub of_kind : (id : PackedFeatureId) (kind : Option FeatureKind) → id.0 < 2 ^ 32 → kind_of id ≡ kind → let feature = option_map_or (λ (k : FeatureKind). feature_of k (bit_and id.0 (2 ^ 30 - 1))) kind Unknown in (feature ≡ unpacked id) × PacksBack id feature
+unfolding unpacked
+of_kind id kind small is =
+    let feature : ℕ → Option FeatureKind → FeatureId = λ n o. option_map_or (λ (k : FeatureKind). feature_of k n) o Unknown in
+    let same : feature (bit_and id.0 (2 ^ 30 - 1)) kind ≡ unpacked id = ap (λ (n : ℕ). feature n kind) (and_mask id.0 30) ∙ ap (feature (id.0 % 2 ^ 30)) (sym is) in
+    (same, subst (PacksBack id) (sym same) (packs_back id small))

@@ -9,11 +9,14 @@ use Rattle.math.specs.Refusals.{Answer, done, refused}
 use Rattle.math.specs.Vectors.{sizes, largest_place, coordinate}
 use Rattle.math.specs.declared.vector.Vector.{Vector}
 use Rattle.shape.specs.Features.{Fields, unknown}
-use Rattle.shape.specs.Ids.{packed, four_ids, vertex_header, edge_header, face_header}
+use Rattle.shape.specs.Ids.{packed, four_codes, vertex_header, edge_header, face_header}
 use Rattle.shape.specs.Nearness.{vertex_at}
 use Rattle.shape.specs.Supports.{Meaning}
-use Rattle.shape.specs.declared.feature_id.PackedFeatureId.{PackedFeatureId}
 use Rattle.shape.specs.declared.cuboid.Cuboid.{Cuboid}
+use Rattle.shape.specs.declared.cuboid.face.Axis.{Axis}
+use Rattle.shape.specs.declared.cuboid.face.Axis.TheVariants.{X, Y, Z}
+use Rattle.shape.specs.declared.cuboid.face.Side.{Side}
+use Rattle.shape.specs.declared.cuboid.face.Side.TheVariants.{Negative, Positive}
 
 abbrev pub extents_of : Cuboid → Vector
 extents_of c = c.half_extents
@@ -29,6 +32,15 @@ main_axis_of dir = largest_place (sizes dir)
 -- the side of the face: 0 where the number is negative, -0 too, and 1 elsewhere
 abbrev pub side_of : Float → ℕ
 side_of d = cond (is_sign_negative d) 0 1
+
+abbrev pub place : Axis → ℕ
+place X = 0
+place Y = 1
+place Z = 2
+
+abbrev pub side_number : Side → ℕ
+side_number Negative = 0
+side_number Positive = 1
 
 -- one of three by the axis: x is 0, y is 1, z is 2
 abbrev pub by_axis : {A : Type 0} → ℕ → A → A → A → A
@@ -79,9 +91,6 @@ edge_codes_of axis side =
     let d = corner_at axis side 3 in
     joining a b ∷ joining b c ∷ joining c d ∷ joining d a ∷ []
 
-abbrev pub four_codes : ℕ → List ℕ → List PackedFeatureId
-four_codes header codes = four_ids header (slice_index codes 0) (slice_index codes 1) (slice_index codes 2) (slice_index codes 3)
-
 -- The face lies across the main axis, on the side of the direction's sign there. Its number is 10 and the axis, and 3 more on the positive side.
 unfoldable pub cuboid_fields : Vector → Vector → Fields
 cuboid_fields he dir =
@@ -93,7 +102,7 @@ cuboid_fields he dir =
       vids = four_codes vertex_header (vertex_codes_of axis side);
       eids = four_codes edge_header (edge_codes_of axis side);
       fid = packed face_header (axis + side * 3 + 10);
-      count = 4;
+      num_vertices = 4;
     }
 
 unfoldable pub cuboid_meaning : Meaning Cuboid

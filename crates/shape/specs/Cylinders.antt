@@ -1,5 +1,5 @@
 -- The cylinder: its sizes, the azimuth of its feature, and the feature.
-use Rattle.std.specs.Prelude.{◌≡◌, ℕ, suc, ◌<◌, true, false, cond, ◌&&◌, ◌⊎◌, List, [], ◌∷◌, Some, None, Option, Float}
+use Rattle.std.specs.Prelude.{◌≡◌, ℕ, suc, ◌<◌, true, false, cond, ◌&&◌, ◌⊎◌, List, [], ◌∷◌, Some, None, Option, option_and_then, unwrap_or, Float}
 use Rattle.std.specs.Float.Ieee as Ieee
 use Rattle.math.specs.Basis.{signed}
 use Rattle.math.specs.Floats.{◌⊗◌, opposite, size, bits, zero, one}
@@ -22,22 +22,16 @@ sizes c = (c.half_height, c.radius)
 abbrev pub making : Float → Float → Answer (Float × Float)
 making hh r = cond (may_be_given hh && may_be_given r) (cond (Ieee.lt zero hh && Ieee.lt zero r) (done (hh, r)) (refused 3)) (refused 2)
 
--- the first that is there
-abbrev pub or_else : {A : Type 0} → Option A → A → A
-or_else (Some a) b = a
-or_else None b = b
-
 -- a vector seen along the y axis: its x and its z
 abbrev pub flat : Vector → Vector2
 flat v = record { x = v.x; y = v.z }
 
 abbrev pub from_hint : Option Vector → Option Vector2
-from_hint None = None
-from_hint (Some h) = normalized (flat h)
+from_hint hint = option_and_then (λ h. normalized (flat h)) hint
 
 -- the hint's, then the direction's, then (1, 0)
 unfoldable pub azimuth : Vector → Option Vector → Vector2
-azimuth dir hint = or_else (from_hint hint) (or_else (normalized (flat dir)) (record { x = one; y = zero }))
+azimuth dir hint = unwrap_or (from_hint hint) (unwrap_or (normalized (flat dir)) (record { x = one; y = zero }))
 
 -- The curved side is one segment, its feature the face 0: from below, vertex 1, up to vertex 11.
 unfoldable pub side : Float → Float → Vector2 → Fields
@@ -46,7 +40,7 @@ side hh r az = record {
   vids = four_ids vertex_header 1 11 11 11;
   eids = four_ids edge_header 0 0 0 0;
   fid = packed face_header 0;
-  count = 2;
+  num_vertices = 2;
 }
 
 -- A cap is a square on the rim, its first vertex at the azimuth and each next one a quarter turn on.
@@ -65,7 +59,7 @@ bottom y r az = record {
   vids = four_ids vertex_header 1 3 5 7;
   eids = four_ids edge_header 2 4 6 8;
   fid = packed face_header 9;
-  count = 4;
+  num_vertices = 4;
 }
 
 -- The top cap has ten more throughout.
@@ -75,7 +69,7 @@ top y r az = record {
   vids = four_ids vertex_header 11 13 15 17;
   eids = four_ids edge_header 12 14 16 18;
   fid = packed face_header 19;
-  count = 4;
+  num_vertices = 4;
 }
 
 abbrev pub half : Float
@@ -109,13 +103,13 @@ quarter_turned v = record { x = opposite v.z; y = v.y; z = v.x }
 
 -- from the lower rim up to the upper one
 pub record SegmentAt (hh r : Float) (az : Vector2) (f : Fields) : Type 0 where
-  pub two_vertices : f.count ≡ 2
+  pub two_vertices : f.num_vertices ≡ 2
   pub lower : vertex_at f.vertices 0 ≡ rim_point (opposite hh) r az
   pub upper : vertex_at f.vertices 1 ≡ rim_point hh r az
 
 -- on one rim, each vertex a quarter turn from the one before
 pub record SquareAt (y r : Float) (az : Vector2) (f : Fields) : Type 0 where
-  pub four_vertices : f.count ≡ 4
+  pub four_vertices : f.num_vertices ≡ 4
   pub first : vertex_at f.vertices 0 ≡ rim_point y r az
   pub next : (i : ℕ) → i < 3 → vertex_at f.vertices (suc i) ≡ quarter_turned (vertex_at f.vertices i)
 

@@ -11,7 +11,7 @@ use Rattle.shape.specs.Nearness.{vertex_limit, vertex_at}
 
 -- a vertex is used where its place is below the count
 abbrev pub is_used : Fields → ℕ → Bool
-is_used f i = nat_lt i f.count
+is_used f i = nat_lt i f.num_vertices
 
 abbrev pub moved_vertex : Pose → Fields → ℕ → Vector
 moved_vertex p f i = cond (is_used f i) (transformed p (vertex_at f.vertices i)) (vertex_at f.vertices i)
@@ -22,7 +22,7 @@ moved p f = record {
   vids = f.vids;
   eids = f.eids;
   fid = f.fid;
-  count = f.count;
+  num_vertices = f.num_vertices;
 }
 
 -- an unused vertex is not looked at

@@ -1,11 +1,18 @@
 // The ids of vertices, edges and faces: a code below 2^30 under a header of two bits.
-ghost use Rattle.std.specs.Prelude.{◌≡◌, ◌^◌, ◌<◌, [], ◌∷◌, slice_index};
+ghost use Rattle.std.specs.Prelude.{◌≡◌, ◌*◌, ◌^◌, ◌<◌};
 ghost use Rattle.math.specs.Refusals.{told};
-ghost use Rattle.shape.specs.Ids.{vertex_header, edge_header, face_header, packed, packing, has_header, unpacked, UnpacksTo, OnlyFrom, PacksBack, is_nothing};
+ghost use Rattle.shape.specs.Ids.{vertex_header, edge_header, face_header, header, packed, four_codes, packing, has_header, feature_of, kind_of, unpacked, UnpacksTo, OnlyFrom, PacksBack, is_nothing};
 
 use math::refusal::Refusal;
 
-#[derive(Clone, Copy, PartialEq, Eq)]
+#[derive(Clone, Copy, Debug, PartialEq, Eq)]
+pub enum FeatureKind {
+    Vertex,
+    Edge,
+    Face,
+}
+
+#[derive(Clone, Copy, Debug, PartialEq, Eq)]
 pub enum FeatureId {
     Vertex(u32),
     Edge(u32),
@@ -13,7 +20,7 @@ pub enum FeatureId {
     Unknown,
 }
 
-#[derive(Clone, Copy, PartialEq, Eq)]
+#[derive(Clone, Copy, Debug, PartialEq, Eq)]
 pub struct PackedFeatureId(pub u32);
 
 const CODE_LIMIT: u32 = 0x4000_0000;
@@ -22,25 +29,40 @@ const CODE_MASK: u32 = 0x3fff_ffff;
 
 const CODE_BITS: u32 = 30;
 
-const HEADER_VERTEX: u32 = 0x4000_0000;
-
-const HEADER_EDGE: u32 = 0x8000_0000;
-
-const HEADER_FACE: u32 = 0xc000_0000;
+impl FeatureKind {
+    // The bits that stand above the code.
+    fn header(self) -> u32
+        ensures { result ≡ header self * 2 ^ 30 }
+    {
+        match self {
+            FeatureKind::Vertex => 0x4000_0000,
+            FeatureKind::Edge => 0x8000_0000,
+            FeatureKind::Face => 0xc000_0000,
+        }
+    }
+}
 
 impl PackedFeatureId {
     // The id of nothing.
     pub const UNKNOWN: PackedFeatureId = PackedFeatureId(0);
+
+    pub fn pack(kind: FeatureKind, code: u32) -> Result<PackedFeatureId, Refusal>
+        ensures value { told result ≡ packing (header kind) code }
+        ensures back { UnpacksTo (told result) (feature_of kind code) }
+        ensures only { OnlyFrom (told result) (header kind) code }
+    {
+        if code >= CODE_LIMIT {
+            return Err(Refusal::CodeTooLarge);
+        }
+        Ok(PackedFeatureId::under_header(kind, code))
+    }
 
     pub fn vertex(code: u32) -> Result<PackedFeatureId, Refusal>
         ensures value { told result ≡ packing vertex_header code }
         ensures back { UnpacksTo (told result) (FeatureId.Vertex code) }
         ensures only { OnlyFrom (told result) vertex_header code }
     {
-        if code >= CODE_LIMIT {
-            return Err(Refusal::CodeTooLarge);
-        }
-        Ok(PackedFeatureId::packed_vertex(code))
+        PackedFeatureId::pack(FeatureKind::Vertex, code)
     }
 
     pub fn edge(code: u32) -> Result<PackedFeatureId, Refusal>
@@ -48,10 +70,7 @@ impl PackedFeatureId {
         ensures back { UnpacksTo (told result) (FeatureId.Edge code) }
         ensures only { OnlyFrom (told result) edge_header code }
     {
-        if code >= CODE_LIMIT {
-            return Err(Refusal::CodeTooLarge);
-        }
-        Ok(PackedFeatureId::packed_edge(code))
+        PackedFeatureId::pack(FeatureKind::Edge, code)
     }
 
     pub fn face(code: u32) -> Result<PackedFeatureId, Refusal>
@@ -59,55 +78,28 @@ impl PackedFeatureId {
         ensures back { UnpacksTo (told result) (FeatureId.Face code) }
         ensures only { OnlyFrom (told result) face_header code }
     {
-        if code >= CODE_LIMIT {
-            return Err(Refusal::CodeTooLarge);
-        }
-        Ok(PackedFeatureId::packed_face(code))
+        PackedFeatureId::pack(FeatureKind::Face, code)
     }
 
-    pub(crate) fn packed_vertex(code: u32) -> PackedFeatureId
+    #[tactic(auto, using(crate::proofs::Ids::under_header))]
+    fn under_header(kind: FeatureKind, code: u32) -> PackedFeatureId
         requires { code < 2 ^ 30 }
-        ensures { result ≡ packed vertex_header code }
+        ensures { result ≡ packed (header kind) code }
     {
-        PackedFeatureId(HEADER_VERTEX | code)
+        PackedFeatureId(kind.header() | code)
     }
 
-    pub(crate) fn packed_edge(code: u32) -> PackedFeatureId
-        requires { code < 2 ^ 30 }
-        ensures { result ≡ packed edge_header code }
+    // A code of eight bits is never too large.
+    pub(crate) fn small(kind: FeatureKind, code: u8) -> PackedFeatureId
+        ensures { result ≡ packed (header kind) code }
     {
-        PackedFeatureId(HEADER_EDGE | code)
+        PackedFeatureId::under_header(kind, u32::from(code))
     }
 
-    pub(crate) fn packed_face(code: u32) -> PackedFeatureId
-        requires { code < 2 ^ 30 }
-        ensures { result ≡ packed face_header code }
+    pub(crate) fn small_ids(kind: FeatureKind, codes: [u8; 4]) -> [PackedFeatureId; 4]
+        ensures { result ≡ four_codes (header kind) codes }
     {
-        PackedFeatureId(HEADER_FACE | code)
-    }
-
-    pub(crate) fn vertices(code: [u32; 4]) -> [PackedFeatureId; 4]
-        requires { (slice_index code 0 < 2 ^ 30) × ((slice_index code 1 < 2 ^ 30) × ((slice_index code 2 < 2 ^ 30) × (slice_index code 3 < 2 ^ 30))) }
-        ensures { result ≡ packed vertex_header (slice_index code 0) ∷ packed vertex_header (slice_index code 1) ∷ packed vertex_header (slice_index code 2) ∷ packed vertex_header (slice_index code 3) ∷ [] }
-    {
-        [
-            PackedFeatureId::packed_vertex(code[0]),
-            PackedFeatureId::packed_vertex(code[1]),
-            PackedFeatureId::packed_vertex(code[2]),
-            PackedFeatureId::packed_vertex(code[3]),
-        ]
-    }
-
-    pub(crate) fn edges(code: [u32; 4]) -> [PackedFeatureId; 4]
-        requires { (slice_index code 0 < 2 ^ 30) × ((slice_index code 1 < 2 ^ 30) × ((slice_index code 2 < 2 ^ 30) × (slice_index code 3 < 2 ^ 30))) }
-        ensures { result ≡ packed edge_header (slice_index code 0) ∷ packed edge_header (slice_index code 1) ∷ packed edge_header (slice_index code 2) ∷ packed edge_header (slice_index code 3) ∷ [] }
-    {
-        [
-            PackedFeatureId::packed_edge(code[0]),
-            PackedFeatureId::packed_edge(code[1]),
-            PackedFeatureId::packed_edge(code[2]),
-            PackedFeatureId::packed_edge(code[3]),
-        ]
+        codes.map(|code| PackedFeatureId::small(kind, code))
     }
 
     // An id under the header 00 names nothing, whatever its code.
@@ -116,39 +108,50 @@ impl PackedFeatureId {
         ensures back { PacksBack self result }
     {
         let code = self.0 & CODE_MASK;
-        if self.is_vertex() {
-            return FeatureId::Vertex(code);
+        match self.kind() {
+            Some(FeatureKind::Vertex) => FeatureId::Vertex(code),
+            Some(FeatureKind::Edge) => FeatureId::Edge(code),
+            Some(FeatureKind::Face) => FeatureId::Face(code),
+            None => FeatureId::Unknown,
         }
-        if self.is_edge() {
-            return FeatureId::Edge(code);
-        }
-        if self.is_face() {
-            return FeatureId::Face(code);
-        }
-        FeatureId::Unknown
     }
 
+    // None under the header 00.
+    pub fn kind(self) -> Option<FeatureKind>
+        ensures { result ≡ kind_of self }
+    {
+        match self.0 >> CODE_BITS {
+            0b01 => Some(FeatureKind::Vertex),
+            0b10 => Some(FeatureKind::Edge),
+            0b11 => Some(FeatureKind::Face),
+            _ => None,
+        }
+    }
+
+    #[tactic(auto, using(crate::proofs::Ids::is_kind))]
     pub fn is_face(self) -> bool
         ensures { result ≡ has_header face_header self }
     {
-        self.0 >> CODE_BITS == HEADER_FACE >> CODE_BITS
+        self.kind() == Some(FeatureKind::Face)
     }
 
+    #[tactic(auto, using(crate::proofs::Ids::is_kind))]
     pub fn is_vertex(self) -> bool
         ensures { result ≡ has_header vertex_header self }
     {
-        self.0 >> CODE_BITS == HEADER_VERTEX >> CODE_BITS
+        self.kind() == Some(FeatureKind::Vertex)
     }
 
+    #[tactic(auto, using(crate::proofs::Ids::is_kind))]
     pub fn is_edge(self) -> bool
         ensures { result ≡ has_header edge_header self }
     {
-        self.0 >> CODE_BITS == HEADER_EDGE >> CODE_BITS
+        self.kind() == Some(FeatureKind::Edge)
     }
 
     pub fn is_unknown(self) -> bool
         ensures { result ≡ is_nothing self }
     {
-        self.0 == PackedFeatureId::UNKNOWN.0
+        self == PackedFeatureId::UNKNOWN
     }
 }

@@ -25,7 +25,7 @@ use shape::cuboid::Cuboid;
 use shape::cylinder::Cylinder;
 use shape::feature_id::PackedFeatureId;
 use shape::polygonal_feature_map::PolygonalFeatureMap;
-use shape::polygonal_feature3d::PolygonalFeature;
+use shape::polygonal_feature3d::{FeatureRow, PolygonalFeature};
 
 impl Session {
     pub fn new() -> Session
@@ -143,14 +143,21 @@ impl Session {
         ensures after { state self.new ≡ with_feature which (made (row_fields row) (feature_at which (state self.old))) (state self.old) }
     {
         let mut feature = self.feature(which);
-        let result = PolygonalFeature::make(
-            row.vertices,
-            row.vids,
-            row.eids,
-            row.fid,
-            row.num_vertices,
-            &mut feature,
-        );
+        let Row {
+            vertices,
+            vids,
+            eids,
+            fid,
+            num_vertices,
+        } = row;
+        let given = FeatureRow {
+            vertices,
+            vids,
+            eids,
+            fid,
+            num_vertices,
+        };
+        let result = PolygonalFeature::make(given, &mut feature);
         self.put_feature(which, feature);
         done(result)
     }
