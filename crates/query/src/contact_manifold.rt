@@ -7,7 +7,7 @@ use math::vector::Vector;
 use shape::feature_id::PackedFeatureId;
 use std::alloc::AllocError;
 
-#[derive(Copy, Drop, PartialEq)]
+#[derive(Copy, Debug, Drop, PartialEq)]
 pub struct TrackedContact<D> {
     pub local_p1: Vector,
     pub local_p2: Vector,
