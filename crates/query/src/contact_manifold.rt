@@ -7,7 +7,7 @@ use math::vector::Vector;
 use shape::feature_id::PackedFeatureId;
 use std::alloc::AllocError;
 
-#[derive(Drop)]
+#[derive(Copy, Debug, Drop, PartialEq)]
 pub struct TrackedContact<D> {
     pub local_p1: Vector,
     pub local_p2: Vector,
@@ -28,8 +28,7 @@ impl<D: Copy> Clone for TrackedContact<D> {
     }
 }
 
-impl<D: Copy> Copy for TrackedContact<D> {}
-
+#[tactic(auto, using(crate::proofs::ContactMagnitude::bounded_swap), unfolding(crate::specs::Contacts::fresh, crate::specs::Contacts::turned))]
 impl<D: ContactData> TrackedContact<D> {
     ghost use Rattle.query.specs.Contacts.{seen, fresh, turned};
 
