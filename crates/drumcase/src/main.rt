@@ -21,10 +21,7 @@ fn main(rt: HostRuntime) -> anyhow::Result<()> {
 }
 
 fn run(rt: &HostRuntime) -> anyhow::Result<()> {
-    match meet() {
-        Ok(contacts) => print_contacts(rt, contacts),
-        Err(refusal) => Err(anyhow!("{}", refusal.reason())),
-    }
+    print_contacts(rt, meet()?)
 }
 
 fn print_contacts(rt: &HostRuntime, contacts: Option<(Contact, Contact)>) -> anyhow::Result<()> {
@@ -55,11 +52,7 @@ fn meet() -> Result<Option<(Contact, Contact)>, Refusal> {
 
 fn print_contact(rt: &HostRuntime, contact: &Contact) -> anyhow::Result<()> {
     let mut buffer = [0u8; CONTACT_LINE_LEN];
-    match contact_line::contact_line(contact, &mut buffer) {
-        Ok(()) => {
-            rt.stdout().write_all(&buffer)?;
-            Ok(())
-        }
-        Err(refusal) => Err(anyhow!("{}", refusal.reason())),
-    }
+    contact_line::contact_line(contact, &mut buffer)?;
+    rt.stdout().write_all(&buffer)?;
+    Ok(())
 }

@@ -1,4 +1,5 @@
 pub mod AllMagnitudes
+pub mod Arrays
 pub mod AzimuthMagnitude
 pub mod BasisMagnitude
 pub mod Fraction

@@ -8,6 +8,7 @@ use Rattle.math.specs.Floats.{◌⊕◌, ◌⊗◌, two}
 use Rattle.math.specs.Limits.{limit, unit_high, near_one, unit_vector, unit_rotation}
 use Rattle.math.specs.Magnitude.{bound, within, vector_within}
 use Rattle.math.specs.MagnitudeLaws.{three_halves}
+use Rattle.math.specs.Poses.{rotation_squared}
 use Rattle.math.specs.Vectors.{dotted}
 use Rattle.math.specs.declared.pose.Rotation.{Rotation}
 use Rattle.math.specs.declared.vector.Vector.{Vector}
@@ -113,7 +114,7 @@ module _ (v : Vector) (given : vector_within limit v ≡ true) where
 
   -- an accepted axis or normal
   pub unit_components : unit_vector v ≡ true → vector_within three_halves v ≡ true
-  unfolding unit_vector near_one
+  unfolding near_one
   unit_components h = components (within_of_le unit_high (dotted v v) dotted_bound (and_parts _ _ h).1)
 
 -- an accepted rotation
@@ -126,7 +127,7 @@ pub record Accepted (q : Rotation) : Type 0 where
   pub ww_bound : bound (q.w ⊗ q.w) ≡ true
 
 pub accepted : (q : Rotation) → vector_within limit q.b ≡ true → within limit q.w ≡ true → unit_rotation q ≡ true → Accepted q
-unfolding unit_rotation near_one dotted
+unfolding rotation_squared near_one dotted
 accepted q g j h =
     let bb = dotted q.b q.b in
     let ww = q.w ⊗ q.w in

@@ -1,8 +1,9 @@
 -- Which numbers may be given, and what counts as unit length.
 use Rattle.std.specs.Prelude.{Bool, ◌&&◌, Float}
 use Rattle.std.specs.Float.Ieee as Ieee
-use Rattle.math.specs.Floats.{◌⊕◌, ◌⊗◌, bits}
+use Rattle.math.specs.Floats.{bits}
 use Rattle.math.specs.Magnitude.{within, vector_within}
+use Rattle.math.specs.Poses.{rotation_squared}
 use Rattle.math.specs.Vectors.{dotted}
 use Rattle.math.specs.declared.pose.Pose.{Pose}
 use Rattle.math.specs.declared.pose.Rotation.{Rotation}
@@ -33,10 +34,8 @@ unit_high = bits 0x3ff0_0001_0000_0000
 unfoldable pub near_one : Float → Bool
 near_one s = Ieee.le unit_low s && Ieee.le s unit_high
 
-unfoldable pub unit_vector : Vector → Bool
-unfolding near_one
+abbrev pub unit_vector : Vector → Bool
 unit_vector v = near_one (dotted v v)
 
-unfoldable pub unit_rotation : Rotation → Bool
-unfolding near_one
-unit_rotation q = near_one (q.b.x ⊗ q.b.x ⊕ q.b.y ⊗ q.b.y ⊕ q.b.z ⊗ q.b.z ⊕ q.w ⊗ q.w)
+abbrev pub unit_rotation : Rotation → Bool
+unit_rotation q = near_one (rotation_squared q)

@@ -1,11 +1,13 @@
 // Rotations and poses: a point or a direction of one frame as the other frame has it.
 ghost use Rattle.std.specs.Prelude.{◌≡◌};
-ghost use Rattle.math.specs.Poses.{inverted, rotated, transformed, untransformed};
+ghost use Rattle.math.specs.Limits.{pose_given};
+ghost use Rattle.math.specs.Poses.{inverted, rotated, transformed, untransformed, rotation_squared};
 
+use crate::limits::{Given, SquaredLength};
 use crate::vector::Vector;
 
 // The quaternion with vector part `b` and scalar part `w`.
-#[derive(Clone, Copy)]
+#[derive(Clone, Copy, Debug, PartialEq)]
 pub struct Rotation {
     pub b: Vector,
     pub w: f64,
@@ -39,7 +41,17 @@ impl Rotation {
     }
 }
 
-#[derive(Clone, Copy)]
+#[tactic(auto, unfolding(crate::specs::Poses::rotation_squared))]
+impl SquaredLength for Rotation {
+    ghost squared = { rotation_squared };
+
+    fn length_squared(self) -> f64 {
+        let b = self.b;
+        b.x * b.x + b.y * b.y + b.z * b.z + self.w * self.w
+    }
+}
+
+#[derive(Clone, Copy, Debug, PartialEq)]
 pub struct Pose {
     pub rotation: Rotation,
     pub translation: Vector,
@@ -65,5 +77,14 @@ impl Pose {
         ensures { result ≡ untransformed self p }
     {
         self.rotation.inverse().rotate(p.sub(self.translation))
+    }
+}
+
+#[tactic(auto, unfolding(crate::specs::Limits::pose_given))]
+impl Given for Pose {
+    ghost given = { pose_given };
+
+    fn is_given(self) -> bool {
+        self.translation.is_given() & self.rotation.b.is_given() & self.rotation.w.is_given()
     }
 }

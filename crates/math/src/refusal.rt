@@ -1,6 +1,9 @@
 // Why a call is turned down: one case for each reason, its number as its discriminant.
-ghost use Rattle.std.specs.Prelude.{◌≡◌};
+ghost use Rattle.std.specs.Prelude.{◌≡◌, Some};
 ghost use Rattle.math.specs.Refusals.{numbered, worded};
+
+use std::error::Error;
+use std::fmt;
 
 #[derive(Clone, Copy, Debug, PartialEq, Eq)]
 pub enum Refusal {
@@ -35,12 +38,6 @@ pub enum Refusal {
 }
 
 impl Refusal {
-    pub fn number(self) -> u8
-        ensures { result ≡ numbered self }
-    {
-        self as u8
-    }
-
     // The reason in words, for a person.
     pub fn reason(self) -> &'static str
         ensures { result.now ≡ worded self }
@@ -65,3 +62,21 @@ impl Refusal {
         }
     }
 }
+
+impl From<Refusal> for u8 {
+    ghost from_gives = { λ r n. n ≡ numbered r };
+
+    fn from(refusal: Refusal) -> u8 {
+        refusal as u8
+    }
+}
+
+impl fmt::Display for Refusal {
+    ghost output = { λ r. Some (worded r) };
+
+    fn fmt<W: fmt::Write>(&self, f: &mut fmt::Formatter<W>) -> fmt::Result {
+        f.write_str(self.reason())
+    }
+}
+
+impl Error for Refusal {}

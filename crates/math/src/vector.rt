@@ -1,8 +1,11 @@
 // The vector in three dimensions, with the operations that the contact code takes from it.
 ghost use Rattle.std.specs.Prelude.{◌≡◌, true};
+ghost use Rattle.math.specs.Limits.{vector_given};
 ghost use Rattle.math.specs.Vectors.{added, subtracted, negated, scaled, dotted, crossed, sizes, vector_number, largest_place, FirstLargest};
 
-#[derive(Clone, Copy)]
+use crate::limits::{Given, SquaredLength};
+
+#[derive(Clone, Copy, Debug, PartialEq)]
 pub struct Vector {
     pub x: f64,
     pub y: f64,
@@ -68,12 +71,6 @@ impl Vector {
         self.x * other.x + self.y * other.y + self.z * other.z
     }
 
-    pub fn length_squared(self) -> f64
-        ensures { result ≡ dotted self self }
-    {
-        self.dot(self)
-    }
-
     pub fn distance_squared(self, other: Vector) -> f64
         ensures { result ≡ dotted (subtracted self other) (subtracted self other) }
     {
@@ -113,5 +110,22 @@ impl Vector {
         } else {
             if z > x { 2 } else { 0 }
         }
+    }
+}
+
+impl SquaredLength for Vector {
+    ghost squared = { λ v. dotted v v };
+
+    fn length_squared(self) -> f64 {
+        self.dot(self)
+    }
+}
+
+#[tactic(auto, unfolding(crate::specs::Magnitude::vector_within))]
+impl Given for Vector {
+    ghost given = { vector_given };
+
+    fn is_given(self) -> bool {
+        self.x.is_given() & self.y.is_given() & self.z.is_given()
     }
 }

@@ -4,9 +4,10 @@ ghost use Rattle.math.specs.Limits.{limit};
 ghost use Rattle.math.specs.Magnitude.{vector2_within};
 ghost use Rattle.math.specs.Vectors2.{subtracted, scaled, dotted, perp_dotted, normalized};
 
-use crate::{limits, root};
+use crate::limits::{Given, SquaredLength};
+use crate::root;
 
-#[derive(Clone, Copy)]
+#[derive(Clone, Copy, Debug, PartialEq)]
 pub struct Vector2 {
     pub x: f64,
     pub y: f64,
@@ -49,12 +50,6 @@ impl Vector2 {
         self.x * other.y - self.y * other.x
     }
 
-    pub fn length_squared(self) -> f64
-        ensures { result ≡ dotted self self }
-    {
-        self.dot(self)
-    }
-
     // None where the reciprocal of the length is not finite or not above 0.
     pub fn try_normalize(self) -> Option<Vector2>
         ensures { result ≡ normalized self }
@@ -66,11 +61,21 @@ impl Vector2 {
             None
         }
     }
+}
 
-    // Both coordinates may be given.
-    pub fn is_given(self) -> bool
-        ensures { result ≡ vector2_within limit self }
-    {
-        limits::is_given(self.x) & limits::is_given(self.y)
+impl SquaredLength for Vector2 {
+    ghost squared = { λ v. dotted v v };
+
+    fn length_squared(self) -> f64 {
+        self.dot(self)
+    }
+}
+
+#[tactic(auto, unfolding(crate::specs::Magnitude::vector2_within))]
+impl Given for Vector2 {
+    ghost given = { vector2_within limit };
+
+    fn is_given(self) -> bool {
+        self.x.is_given() & self.y.is_given()
     }
 }

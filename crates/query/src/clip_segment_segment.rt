@@ -3,6 +3,7 @@ ghost use Rattle.std.specs.Prelude.{◌≡◌};
 ghost use Rattle.math.specs.Refusals.{told};
 ghost use Rattle.query.specs.Clips.{ordered, undefined, low_end, high_end, clipped, clipping};
 
+use math::limits::{Given, SquaredLength};
 use math::refusal::Refusal;
 use math::vector::Vector;
 

@@ -5,6 +5,7 @@ ghost use Rattle.query.specs.Meeting.{Lines, Ericson, products, meeting, meeting
 
 use math::approx;
 use math::approx::EPSILON;
+use math::limits::{Given, SquaredLength};
 use math::refusal::Refusal;
 use math::vector2::Vector2;
 

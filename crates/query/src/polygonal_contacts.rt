@@ -11,6 +11,7 @@ use crate::clip_segment_segment::ClippingPoints;
 use crate::contact_data::ContactData;
 use crate::contact_manifold::TrackedContact;
 use math::approx::COS_FRAC_PI_8;
+use math::limits::{Given, SquaredLength};
 use math::pose::Pose;
 use math::refusal::Refusal;
 use math::vector::Vector;

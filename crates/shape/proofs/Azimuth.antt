@@ -1,5 +1,5 @@
 -- The azimuth of a round shape's feature has coordinates of at most 2, wherever it is from.
-use Rattle.std.proofs.Common.{◌≡◌, true, Some, None, Option, sym, refl, subst, inl, inr}
+use Rattle.std.proofs.Common.{◌≡◌, true, Some, None, Option, unwrap_or, sym, refl, subst, inl, inr}
 use lib.Ieee.{of_bits, le}
 use Rattle.std.specs.Float.{float_with_sign}
 use Rattle.std.proofs.lemmas.Bool.{and_parts, cases_Bool, cond-true, cond-false}
@@ -11,7 +11,7 @@ use Rattle.math.specs.declared.vector.Vector.{Vector}
 use Rattle.math.specs.declared.vector2.Vector2.{Vector2}
 use Rattle.math.proofs.AzimuthMagnitude.{normalized_within}
 use Rattle.math.proofs.VectorMagnitude.{coordinates}
-use Rattle.shape.specs.Cylinders.{or_else, flat, from_hint, azimuth}
+use Rattle.shape.specs.Cylinders.{flat, from_hint, azimuth}
 use Rattle.shape.specs.Supports.{hint_given, direction_given}
 
 -- what there is, is within 2
@@ -19,9 +19,9 @@ abbrev Short : Option Vector2 → Type 0
 Short (Some a) = vector2_within two a ≡ true
 Short None = Unit {0}
 
-or_else_short : (o : Option Vector2) (a : Vector2) → Short o → vector2_within two a ≡ true → vector2_within two (or_else o a) ≡ true
-or_else_short (Some b) a h k = h
-or_else_short None a h k = k
+unwrap_or-short : (o : Option Vector2) (a : Vector2) → Short o → vector2_within two a ≡ true → vector2_within two (unwrap_or o a) ≡ true
+unwrap_or-short (Some b) a h k = h
+unwrap_or-short None a h k = k
 
 normalized_short : (v : Vector) → vector_within limit v ≡ true → Short (normalized (flat v))
 unfolding normalized
@@ -45,4 +45,4 @@ pub azimuth_within : (dir : Vector) (hint : Option Vector) → direction_given d
 unfolding azimuth
 azimuth_within dir hint g =
     let p = and_parts _ _ g in
-    or_else_short (from_hint hint) _ (hint_short hint p.1) (or_else_short (normalized (flat dir)) _ (normalized_short dir p.0) along_x)
+    unwrap_or-short (from_hint hint) _ (hint_short hint p.1) (unwrap_or-short (normalized (flat dir)) _ (normalized_short dir p.0) along_x)

@@ -16,6 +16,8 @@ use Rattle.math.proofs.Magnitude.{no, mul_within, neg_within}
 use Rattle.math.proofs.UnitMagnitude.{limit_bound}
 use Rattle.math.proofs.VectorMagnitude.{coordinates}
 use Rattle.shape.specs.Cuboids.{main_axis_of, side_of, face_vertices_of, face_corners, corner_at, vertex_codes_of, joining, edge_codes_of, cuboid_fields, PlusOrMinus, FaceCorner, AroundFace, next, Neighbours, Supporting}
+use Rattle.shape.specs.declared.cuboid.face.Side.{Side}
+use Rattle.shape.specs.declared.cuboid.face.Side.TheVariants.{Negative, Positive}
 use Rattle.shape.specs.Features.{unknown}
 use Rattle.shape.specs.Ids.{packed, four_codes, vertex_header, edge_header, face_header}
 use Rattle.shape.specs.Nearness.{vertex_limit, vertex_at, all_within, near_all}
@@ -31,13 +33,9 @@ axis_below dir =
     (λ h. cond_both (lt v.y v.z) 2 1 below (λ k. omega arith) (λ k. omega arith))
     (λ h. cond_both (lt v.x v.z) 2 0 below (λ k. omega arith) (λ k. omega arith))
 
-pub below_two : (s : ℕ) → s < 2 → (s ≡ 0) ⊎ (s ≡ 1)
-below_two zero l = inl refl
-below_two (suc zero) l = inr refl
-below_two (suc (suc s)) l = absurd (none s l)
-  where
-    none : (s : ℕ) → suc (suc s) < 2 → ⊥
-    none s l = omega arith
+pub sides : (s : Side) → (s ≡ Negative) ⊎ (s ≡ Positive)
+sides Negative = inl refl
+sides Positive = inr refl
 
 sign_side : (b : Bool) → ◌≡◌ {A = ℕ} (cond (lt F.zero (float_with_sign b one)) 1 0) (cond b 0 1)
 unfolding of_bits lt float_with_sign

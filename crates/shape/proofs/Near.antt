@@ -1,7 +1,8 @@
 -- The vertices of every feature lie within 2^21: what may be given does, and so does an azimuth of at most 2 times a radius of at most 2^20.
-use Rattle.std.proofs.Common.{◌≡◌, true, List, refl, ◌∙◌, subst}
+use Rattle.std.proofs.Common.{◌≡◌, true, List, length, refl, ◌∙◌, subst}
 use lib.Ieee.{Float, nan, inf, fin, of_bits, mul, round, le}
 use Rattle.std.specs.Float.{float_with_sign}
+use Rattle.std.specs.List.{list_all}
 use Rattle.std.proofs.lemmas.Bool.{and_parts, and_from}
 use Rattle.math.specs.Basis.{signed}
 use Rattle.math.specs.Floats.{◌⊗◌, opposite, two}
@@ -9,6 +10,7 @@ use Rattle.math.specs.Limits.{limit}
 use Rattle.math.specs.Magnitude.{bound, within, vector_within, vector2_within}
 use Rattle.math.specs.declared.vector.Vector.{Vector}
 use Rattle.math.specs.declared.vector2.Vector2.{Vector2}
+use Rattle.math.proofs.Arrays.{all_of_four}
 use Rattle.math.proofs.Magnitude.{within_more, mul_within, neg_within}
 use Rattle.math.proofs.UnitMagnitude.{limit_bound, two_bound}
 use Rattle.math.proofs.VectorMagnitude.{from_coordinates, vector_more}
@@ -34,6 +36,11 @@ given_near x h = within_more limit vertex_limit x limit_bound vertex_limit_bound
 
 pub vertex_near : (v : Vector) → vector_within limit v ≡ true → vector_within vertex_limit v ≡ true
 vertex_near v h = vector_more limit vertex_limit v limit_bound vertex_limit_bound limit_nearer h
+
+-- a test of all four vertices is the test of each
+pub four_within : (b : Float) (vs : List Vector) → length vs ≡ 4 → list_all (vector_within b) vs ≡ all_within b vs
+unfolding all_within
+four_within b vs long = all_of_four (vector_within b) _ vs long
 
 pub all_near : (vs : List Vector) → given_all vs ≡ true → near_all vs ≡ true
 unfolding all_within

@@ -1,5 +1,5 @@
 -- Where the vertices of a cylinder's feature stand: a product with an opposite is the opposite product, so each vertex of a cap is a quarter turn from the one before.
-use Rattle.std.proofs.Common.{◌≡◌, ℕ, zero, suc, ◌+◌, ◌-◌, ◌*◌, ◌/◌, ◌%◌, ◌^◌, ◌<◌, Bool, true, false, cond, not, eqb, ltb, ◌⊎◌, Some, None, Option, sym, refl, ap, ◌∙◌, subst, inl, inr, arith}
+use Rattle.std.proofs.Common.{◌≡◌, ℕ, zero, suc, ◌+◌, ◌-◌, ◌*◌, ◌/◌, ◌%◌, ◌^◌, ◌<◌, Bool, true, false, cond, not, eqb, ltb, ◌⊎◌, Some, None, Option, unwrap_or, sym, refl, ap, ◌∙◌, subst, inl, inr, arith}
 use Prim.Native.Nat.{compare}
 use lib.Ieee as Ieee
 use lib.Ieee.{Float, Format, nan, inf, fin, binary64, prec, emax, low, unlike, nearest, odd, units, round, neg, mul, up, down}
@@ -11,7 +11,7 @@ use Rattle.math.specs.Floats as F
 use Rattle.math.specs.Vectors2.{normalized}
 use Rattle.math.specs.declared.vector.Vector.{Vector}
 use Rattle.math.specs.declared.vector2.Vector2.{Vector2}
-use Rattle.shape.specs.Cylinders.{or_else, flat, from_hint, azimuth, rim, side, top, bottom, cap, half, cylinder_fields, AzimuthFrom, quarter_turned, SegmentAt, SquareAt, StandsAt}
+use Rattle.shape.specs.Cylinders.{flat, from_hint, azimuth, rim, side, top, bottom, cap, half, cylinder_fields, AzimuthFrom, quarter_turned, SegmentAt, SquareAt, StandsAt}
 use Rattle.shape.specs.Nearness.{vertex_at}
 
 -- ---- opposites
@@ -103,7 +103,7 @@ stands hh r dir az =
 
 -- ---- the azimuth
 
-first_there : (o p : Option Vector2) (a : Vector2) → (o ≡ Some (or_else o (or_else p a))) ⊎ ((o ≡ None) × (p ≡ Some (or_else o (or_else p a)))) ⊎ ((o ≡ None) × (p ≡ None) × (or_else o (or_else p a) ≡ a))
+first_there : (o p : Option Vector2) (a : Vector2) → (o ≡ Some (unwrap_or o (unwrap_or p a))) ⊎ ((o ≡ None) × (p ≡ Some (unwrap_or o (unwrap_or p a)))) ⊎ ((o ≡ None) × (p ≡ None) × (unwrap_or o (unwrap_or p a) ≡ a))
 first_there (Some b) p a = inl refl
 first_there None (Some b) a = inr (inl (refl, refl))
 first_there None None a = inr (inr (refl, refl, refl))

@@ -13,6 +13,10 @@ use Rattle.shape.specs.Ids.{packed, four_codes, vertex_header, edge_header, face
 use Rattle.shape.specs.Nearness.{vertex_at}
 use Rattle.shape.specs.Supports.{Meaning}
 use Rattle.shape.specs.declared.cuboid.Cuboid.{Cuboid}
+use Rattle.shape.specs.declared.cuboid.face.Axis.{Axis}
+use Rattle.shape.specs.declared.cuboid.face.Axis.TheVariants.{X, Y, Z}
+use Rattle.shape.specs.declared.cuboid.face.Side.{Side}
+use Rattle.shape.specs.declared.cuboid.face.Side.TheVariants.{Negative, Positive}
 
 abbrev pub extents_of : Cuboid → Vector
 extents_of c = c.half_extents
@@ -28,6 +32,15 @@ main_axis_of dir = largest_place (sizes dir)
 -- the side of the face: 0 where the number is negative, -0 too, and 1 elsewhere
 abbrev pub side_of : Float → ℕ
 side_of d = cond (is_sign_negative d) 0 1
+
+abbrev pub place : Axis → ℕ
+place X = 0
+place Y = 1
+place Z = 2
+
+abbrev pub side_number : Side → ℕ
+side_number Negative = 0
+side_number Positive = 1
 
 -- one of three by the axis: x is 0, y is 1, z is 2
 abbrev pub by_axis : {A : Type 0} → ℕ → A → A → A → A

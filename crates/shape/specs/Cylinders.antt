@@ -1,5 +1,5 @@
 -- The cylinder: its sizes, the azimuth of its feature, and the feature.
-use Rattle.std.specs.Prelude.{◌≡◌, ℕ, suc, ◌<◌, true, false, cond, ◌&&◌, ◌⊎◌, List, [], ◌∷◌, Some, None, Option, Float}
+use Rattle.std.specs.Prelude.{◌≡◌, ℕ, suc, ◌<◌, true, false, cond, ◌&&◌, ◌⊎◌, List, [], ◌∷◌, Some, None, Option, option_and_then, unwrap_or, Float}
 use Rattle.std.specs.Float.Ieee as Ieee
 use Rattle.math.specs.Basis.{signed}
 use Rattle.math.specs.Floats.{◌⊗◌, opposite, size, bits, zero, one}
@@ -22,22 +22,16 @@ sizes c = (c.half_height, c.radius)
 abbrev pub making : Float → Float → Answer (Float × Float)
 making hh r = cond (may_be_given hh && may_be_given r) (cond (Ieee.lt zero hh && Ieee.lt zero r) (done (hh, r)) (refused 3)) (refused 2)
 
--- the first that is there
-abbrev pub or_else : {A : Type 0} → Option A → A → A
-or_else (Some a) b = a
-or_else None b = b
-
 -- a vector seen along the y axis: its x and its z
 abbrev pub flat : Vector → Vector2
 flat v = record { x = v.x; y = v.z }
 
 abbrev pub from_hint : Option Vector → Option Vector2
-from_hint None = None
-from_hint (Some h) = normalized (flat h)
+from_hint hint = option_and_then (λ h. normalized (flat h)) hint
 
 -- the hint's, then the direction's, then (1, 0)
 unfoldable pub azimuth : Vector → Option Vector → Vector2
-azimuth dir hint = or_else (from_hint hint) (or_else (normalized (flat dir)) (record { x = one; y = zero }))
+azimuth dir hint = unwrap_or (from_hint hint) (unwrap_or (normalized (flat dir)) (record { x = one; y = zero }))
 
 -- The curved side is one segment, its feature the face 0: from below, vertex 1, up to vertex 11.
 unfoldable pub side : Float → Float → Vector2 → Fields

@@ -1,5 +1,6 @@
 -- What a shape means: the fields of one feature for each direction and optional hint.
-use Rattle.std.specs.Prelude.{◌≡◌, Bool, true, cond, ◌&&◌, Some, None, Option}
+use Rattle.std.specs.Prelude.{◌≡◌, Bool, true, cond, ◌&&◌, Option}
+use Rattle.std.specs.Option.{option_map_or}
 use Rattle.math.specs.Limits.{vector_given}
 use Rattle.math.specs.Refusals.{Answer, done, refused}
 use Rattle.math.specs.declared.vector.Vector.{Vector}
@@ -9,8 +10,7 @@ abbrev pub Meaning : Type 0 → Type 0
 Meaning S = S → Vector → Option Vector → Fields
 
 abbrev pub hint_given : Option Vector → Bool
-hint_given None = true
-hint_given (Some h) = vector_given h
+hint_given hint = option_map_or vector_given hint true
 
 abbrev pub direction_given : Vector → Option Vector → Bool
 direction_given dir hint = vector_given dir && hint_given hint

@@ -2,7 +2,8 @@
 ghost use Rattle.std.specs.Prelude.{◌≡◌, true};
 ghost use Rattle.shape.specs.Sizes.{is_size};
 
-pub mod making;
+use math::limits::Given;
+use math::refusal::Refusal;
 
 #[derive(Clone, Copy)]
 pub struct Cylinder {
@@ -10,4 +11,24 @@ pub struct Cylinder {
     pub radius: f64,
     ghost tall: { is_size half_height ≡ true },
     ghost round: { is_size radius ≡ true },
+}
+
+impl Cylinder {
+    ghost use Rattle.math.specs.Refusals.{told_as};
+    ghost use Rattle.shape.specs.Cylinders.{sizes, making};
+
+    pub fn new(half_height: f64, radius: f64) -> Result<Cylinder, Refusal>
+        ensures { told_as sizes result ≡ making half_height radius }
+    {
+        if !(half_height, radius).is_given() {
+            return Err(Refusal::NumberOutOfRange);
+        }
+        if !((half_height > 0.0) & (radius > 0.0)) {
+            return Err(Refusal::SizeNotPositive);
+        }
+        Ok(Cylinder {
+            half_height,
+            radius,
+        })
+    }
 }

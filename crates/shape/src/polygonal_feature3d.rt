@@ -1,10 +1,10 @@
 // A polygonal feature: the vertex, edge or face of a convex shape that a contact is made from. None exists with more than four vertices or a vertex beyond 2^21.
-ghost use Rattle.std.specs.Prelude.{◌≡◌, ◌≤◌, true, if◌then◌else◌};
+ghost use Rattle.std.specs.Prelude.{◌≡◌, ◌≤◌, true};
 ghost use Rattle.math.specs.Magnitude.{vector_within};
-ghost use Rattle.math.specs.Poses.{transformed};
-ghost use Rattle.shape.specs.Nearness.{vertex_limit, given_all, near_all};
+ghost use Rattle.shape.specs.Nearness.{vertex_limit, near_all};
 
 use crate::feature_id::PackedFeatureId;
+use math::limits::{Given, SquaredLength};
 use math::pose::Pose;
 use math::refusal::Refusal;
 use math::vector::Vector;
@@ -13,7 +13,7 @@ use math::vector::Vector;
 const VERTEX_LIMIT: f64 = 2097152.0;
 
 // A feature's fields as given, with nothing known of them.
-#[derive(Clone, Copy)]
+#[derive(Clone, Copy, Debug, PartialEq)]
 pub struct FeatureRow {
     pub vertices: [Vector; 4],
     pub vids: [PackedFeatureId; 4],
@@ -33,28 +33,16 @@ pub struct PolygonalFeature {
     ghost few: { num_vertices ≤ 4 },
 }
 
-fn are_given(v: [Vector; 4]) -> bool
-    ensures { result ≡ given_all v }
-{
-    v[0].is_given() & v[1].is_given() & v[2].is_given() & v[3].is_given()
-}
-
 fn is_near(v: Vector) -> bool
     ensures { result ≡ vector_within vertex_limit v }
 {
     (v.x.abs() <= VERTEX_LIMIT) & (v.y.abs() <= VERTEX_LIMIT) & (v.z.abs() <= VERTEX_LIMIT)
 }
 
-fn are_near(v: [Vector; 4]) -> bool
-    ensures { result ≡ near_all v }
+fn are_near(vertices: &[Vector; 4]) -> bool
+    ensures { result ≡ near_all vertices.now }
 {
-    is_near(v[0]) & is_near(v[1]) & is_near(v[2]) & is_near(v[3])
-}
-
-fn moved_if(used: bool, pos: Pose, v: Vector) -> Vector
-    ensures { result ≡ (if used then transformed pos v else v) }
-{
-    if used { pos.transform_point(v) } else { v }
+    vertices.iter().all(|v| is_near(*v))
 }
 
 impl PolygonalFeature {
@@ -87,7 +75,7 @@ impl PolygonalFeature {
             fid,
             num_vertices,
         } = row;
-        if !are_given(vertices) {
+        if !vertices.is_given() {
             return Err(Refusal::NumberOutOfRange);
         }
         if num_vertices > 4 {
@@ -114,23 +102,14 @@ impl PolygonalFeature {
         if !pos.rotation.is_unit() {
             return Err(Refusal::RotationNotUnit);
         }
-        let n = self.num_vertices;
-        let vertices = [
-            moved_if(n > 0, *pos, self.vertices[0]),
-            moved_if(n > 1, *pos, self.vertices[1]),
-            moved_if(n > 2, *pos, self.vertices[2]),
-            moved_if(n > 3, *pos, self.vertices[3]),
-        ];
-        if !are_near(vertices) {
+        let mut vertices = self.vertices;
+        for v in &mut vertices[..self.num_vertices] {
+            *v = pos.transform_point(*v);
+        }
+        if !are_near(&vertices) {
             return Err(Refusal::VertexOutOfRange);
         }
-        *self = PolygonalFeature {
-            vertices,
-            vids: self.vids,
-            eids: self.eids,
-            fid: self.fid,
-            num_vertices: n,
-        };
+        self.vertices = vertices;
         Ok(())
     }
 }

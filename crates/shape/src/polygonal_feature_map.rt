@@ -4,7 +4,7 @@ ghost use Rattle.math.specs.Floats.{two};
 ghost use Rattle.math.specs.Magnitude.{vector2_within};
 ghost use Rattle.math.specs.Refusals.{told};
 ghost use Rattle.shape.specs.Features.{fields};
-ghost use Rattle.shape.specs.Supports.{Meaning, hint_given, direction_given, supporting};
+ghost use Rattle.shape.specs.Supports.{Meaning, direction_given, supporting};
 ghost use Rattle.shape.specs.Cuboids.{cuboid_meaning};
 ghost use Rattle.shape.specs.Cylinders.{azimuth, side, cap, cylinder_fields, cylinder_meaning, AzimuthFrom, StandsAt};
 
@@ -12,6 +12,7 @@ use crate::cuboid::Cuboid;
 use crate::cylinder::Cylinder;
 use crate::feature_id::{FeatureKind, PackedFeatureId};
 use crate::polygonal_feature3d::PolygonalFeature;
+use math::limits::Given;
 use math::refusal::Refusal;
 use math::vector::Vector;
 use math::vector2::Vector2;
@@ -32,30 +33,23 @@ pub trait PolygonalFeatureMap {
         ensures after { fields out_feature.new ≡ (if direction_given dir hint then meaning self.now dir hint else fields out_feature.old) };
 }
 
-fn is_hint_given(hint: Option<Vector>) -> bool
-    ensures { result ≡ hint_given hint }
-{
-    match hint {
-        Some(h) => h.is_given(),
-        None => true,
-    }
+// The direction that orients the feature of a round shape around its axis, of coordinates that are at most 2 in size.
+#[derive(Clone, Copy)]
+struct Azimuth {
+    along: Vector2,
+    ghost short: { vector2_within two along ≡ true },
 }
 
-// The azimuth that orients the feature of a round shape: from the hint where it lies off the axis, else from the direction, else along x.
-fn feature_azimuth(dir: Vector, hint: Option<Vector>) -> Vector2
+// From the hint where it lies off the axis, else from the direction, else along x.
+fn feature_azimuth(dir: Vector, hint: Option<Vector>) -> Azimuth
     requires { direction_given dir hint ≡ true }
-    ensures value { result ≡ azimuth dir hint }
-    ensures bound { vector2_within two result ≡ true }
+    ensures { result.along ≡ azimuth dir hint }
 {
-    if let Some(h) = hint {
-        if let Some(az) = Vector2::new(h.x, h.z).try_normalize() {
-            return az;
-        }
-    }
-    match Vector2::new(dir.x, dir.z).try_normalize() {
-        Some(az) => az,
-        None => Vector2::new(1.0, 0.0),
-    }
+    let along = hint
+        .and_then(|h| Vector2::new(h.x, h.z).try_normalize())
+        .or_else(|| Vector2::new(dir.x, dir.z).try_normalize())
+        .unwrap_or(Vector2::new(1.0, 0.0));
+    Azimuth { along }
 }
 
 impl Cylinder {
@@ -70,7 +64,7 @@ impl Cylinder {
         ensures source { AzimuthFrom dir hint (azimuth dir hint) }
         ensures vertices { direction_given dir hint ≡ true → StandsAt self.now.half_height self.now.radius dir (azimuth dir hint) (fields out_feature.new) }
     {
-        if !(dir.is_given() & is_hint_given(hint)) {
+        if !(dir, hint).is_given() {
             return Err(Refusal::NumberOutOfRange);
         }
         self.support_feature_with_azimuth(dir, feature_azimuth(dir, hint), out_feature);
@@ -81,23 +75,22 @@ impl Cylinder {
     fn support_feature_with_azimuth(
         &self,
         dir: Vector,
-        dir2: Vector2,
+        azimuth: Azimuth,
         out_features: &mut PolygonalFeature,
     )
-        requires { vector2_within two dir2 ≡ true }
-        ensures { fields out_features.new ≡ cylinder_fields self.now.half_height self.now.radius dir dir2 }
+        ensures { fields out_features.new ≡ cylinder_fields self.now.half_height self.now.radius dir azimuth.along }
     {
         if dir.y.abs() < 0.5 {
-            self.side_segment(dir2, out_features);
+            self.side_segment(azimuth, out_features);
         } else {
-            self.cap_square(dir, dir2, out_features);
+            self.cap_square(dir, azimuth, out_features);
         }
     }
 
-    fn side_segment(&self, dir2: Vector2, out_features: &mut PolygonalFeature)
-        requires { vector2_within two dir2 ≡ true }
-        ensures { fields out_features.new ≡ side self.now.half_height self.now.radius dir2 }
+    fn side_segment(&self, azimuth: Azimuth, out_features: &mut PolygonalFeature)
+        ensures { fields out_features.new ≡ side self.now.half_height self.now.radius azimuth.along }
     {
+        let dir2 = azimuth.along;
         let lower = Vector::new(
             dir2.x * self.radius,
             -self.half_height,
@@ -107,16 +100,16 @@ impl Cylinder {
         *out_features = PolygonalFeature {
             vertices: [lower, upper, Vector::ZERO, Vector::ZERO],
             vids: PackedFeatureId::small_ids(FeatureKind::Vertex, [1, 11, 11, 11]),
-            eids: PackedFeatureId::small_ids(FeatureKind::Edge, [0, 0, 0, 0]),
+            eids: PackedFeatureId::small_ids(FeatureKind::Edge, [0; 4]),
             fid: PackedFeatureId::small(FeatureKind::Face, 0),
             num_vertices: 2,
         };
     }
 
-    fn cap_square(&self, dir: Vector, dir2: Vector2, out_features: &mut PolygonalFeature)
-        requires { vector2_within two dir2 ≡ true }
-        ensures { fields out_features.new ≡ cap self.now.half_height self.now.radius dir dir2 }
+    fn cap_square(&self, dir: Vector, azimuth: Azimuth, out_features: &mut PolygonalFeature)
+        ensures { fields out_features.new ≡ cap self.now.half_height self.now.radius dir azimuth.along }
     {
+        let dir2 = azimuth.along;
         let y = wops::copy_sign_to(dir.y, self.half_height);
         let vertices = [
             Vector::new(dir2.x * self.radius, y, dir2.y * self.radius),
@@ -124,23 +117,18 @@ impl Cylinder {
             Vector::new(-dir2.x * self.radius, y, -dir2.y * self.radius),
             Vector::new(dir2.y * self.radius, y, -dir2.x * self.radius),
         ];
-        if dir.y < 0.0 {
-            *out_features = PolygonalFeature {
-                vertices,
-                vids: PackedFeatureId::small_ids(FeatureKind::Vertex, [1, 3, 5, 7]),
-                eids: PackedFeatureId::small_ids(FeatureKind::Edge, [2, 4, 6, 8]),
-                fid: PackedFeatureId::small(FeatureKind::Face, 9),
-                num_vertices: 4,
-            };
+        let (vids, eids, fid) = if dir.y < 0.0 {
+            ([1, 3, 5, 7], [2, 4, 6, 8], 9)
         } else {
-            *out_features = PolygonalFeature {
-                vertices,
-                vids: PackedFeatureId::small_ids(FeatureKind::Vertex, [11, 13, 15, 17]),
-                eids: PackedFeatureId::small_ids(FeatureKind::Edge, [12, 14, 16, 18]),
-                fid: PackedFeatureId::small(FeatureKind::Face, 19),
-                num_vertices: 4,
-            };
-        }
+            ([11, 13, 15, 17], [12, 14, 16, 18], 19)
+        };
+        *out_features = PolygonalFeature {
+            vertices,
+            vids: PackedFeatureId::small_ids(FeatureKind::Vertex, vids),
+            eids: PackedFeatureId::small_ids(FeatureKind::Edge, eids),
+            fid: PackedFeatureId::small(FeatureKind::Face, fid),
+            num_vertices: 4,
+        };
     }
 }
 
@@ -167,7 +155,7 @@ impl PolygonalFeatureMap for Cuboid {
         hint: Option<Vector>,
         out_feature: &mut PolygonalFeature,
     ) -> Result<(), Refusal> {
-        if !is_hint_given(hint) {
+        if !hint.is_given() {
             return Err(Refusal::NumberOutOfRange);
         }
         self.support_face(dir, out_feature)

@@ -80,7 +80,7 @@ fn edges_either_way_give_two_contacts(rt: HostRuntime) -> Result<(), Fail> {
 fn refused(r: Result<Contacts, Refusal>) -> u8 {
     match r {
         Ok(_) => 0,
-        Err(e) => e.number(),
+        Err(e) => u8::from(e),
     }
 }
 

@@ -114,7 +114,7 @@ impl Session {
                 self.put_shape(which, shape);
                 Answer::Done
             }
-            Err(refusal) => Answer::TurnedDown(refusal.number()),
+            Err(refusal) => Answer::TurnedDown(u8::from(refusal)),
         }
     }
 
@@ -154,7 +154,7 @@ fn lines(first: [Vector2; 2], second: [Vector2; 2]) -> Answer
 {
     match closest_points_line2d::closest_points_line2d(first, second) {
         Ok(places) => Answer::Meeting(places),
-        Err(refusal) => Answer::TurnedDown(refusal.number()),
+        Err(refusal) => Answer::TurnedDown(u8::from(refusal)),
     }
 }
 
@@ -194,7 +194,7 @@ fn done(res: Result<(), Refusal>) -> Answer
 {
     match res {
         Ok(()) => Answer::Done,
-        Err(refusal) => Answer::TurnedDown(refusal.number()),
+        Err(refusal) => Answer::TurnedDown(u8::from(refusal)),
     }
 }
 
@@ -208,7 +208,7 @@ fn pack(kind: FeatureKind, code: u32) -> Answer
     };
     match result {
         Ok(id) => Answer::Packed(id),
-        Err(refusal) => Answer::TurnedDown(refusal.number()),
+        Err(refusal) => Answer::TurnedDown(u8::from(refusal)),
     }
 }
 
@@ -217,6 +217,6 @@ fn clip(first: (Vector, Vector), second: (Vector, Vector)) -> Answer
 {
     match clip_segment_segment::clip_segment_segment(first, second) {
         Ok(points) => Answer::Clipped(points),
-        Err(refusal) => Answer::TurnedDown(refusal.number()),
+        Err(refusal) => Answer::TurnedDown(u8::from(refusal)),
     }
 }

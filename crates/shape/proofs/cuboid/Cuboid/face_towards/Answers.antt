@@ -14,7 +14,7 @@ invariant_of-out_feature c =
     let k = c.args.self.now in
     let dir = c.args.local_dir in
     let d = coordinate dir (main_axis_of dir) in
-    let here : c.face_vertices.result ≡ face_vertices_of k.half_extents (main_axis_of dir) (signed d one) = cc in
+    let here : c.vertices.result ≡ face_vertices_of k.half_extents (main_axis_of dir) (signed d one) = cc in
     record { near = ap near_all here ∙ face_near k.half_extents (main_axis_of dir) d k.sized; few = omega arith }
 
 pub returns : goal.returns
@@ -27,8 +27,8 @@ returns c =
     let d = coordinate dir axis in
     let found = side_found d in
     let sign = sign_on_side d in
-    let here : c.face_vertices.result ≡ face_vertices_of he axis (signed d one) = cc in
+    let here : c.vertices.result ≡ face_vertices_of he axis (signed d one) = cc in
     let is : c.copy_sign_to-sign.result ≡ on_side (side_of d) one = cc in
-    let exact = subst (λ (a : ℕ). Across he a (side_of d) c.face_vertices.result) c.main_axis-imax.ensures.value (c.face_vertices.ensures.exact (side_of d) is) in
+    let exact = subst (λ (a : ℕ). Across he a (side_of d) c.vertices.result) c.main-axis.ensures (c.vertices.ensures.exact (side_of d) is) in
     let corners = subst (AroundFace he dir) {x = face_vertices_of he axis (signed d one)} (sym here) (around he dir k.sized) in
     record { value = cc; exact = exactly_around he dir _ corners exact }

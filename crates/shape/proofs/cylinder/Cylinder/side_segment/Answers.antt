@@ -10,9 +10,9 @@ pub invariant_of-out_features : goal.invariant_of-out_features
 unfolding side
 invariant_of-out_features c =
     let k = c.args.self.now in
-    let az = c.args.dir2 in
+    let az = c.args.azimuth.along in
     let made : (c.new-lower.result ∷ c.new-upper.result ∷ origin ∷ origin ∷ []) ≡ (side k.half_height k.radius az).vertices = cc in
-    record { near = ap near_all made ∙ side_near k.half_height k.radius az k.tall k.round c.requires; few = omega arith }
+    record { near = ap near_all made ∙ side_near k.half_height k.radius az k.tall k.round c.args.azimuth.short; few = omega arith }
 
 pub returns : goal.returns
 unfolding side

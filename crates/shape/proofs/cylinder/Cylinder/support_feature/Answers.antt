@@ -8,16 +8,8 @@ use Rattle.shape.specs.Supports.{direction_given, supporting}
 use Rattle.shape.proofs.Turns.{stands, azimuth_from}
 use Rattle.shape.proofs.cylinder.Cylinder.support_feature.Goals as goal
 
-pub returns-then-not-is_given-is_hint_given : goal.returns-then-not-is_given-is_hint_given
-unfolding cylinder_meaning
-returns-then-not-is_given-is_hint_given c =
-    let k = c.args.self.now in
-    let dir = c.args.dir in
-    let hint = c.args.hint in
-    let off : direction_given dir hint ≡ false = search rules in
-    let answer : refused 2 ≡ supporting dir hint = search rules in
-    let after : fields c.args.out_feature.now ≡ cond (direction_given dir hint) (cylinder_meaning k dir hint) (fields c.args.out_feature.now) = search rules in
-    record { answer = answer; after = after; source = azimuth_from dir hint; vertices = λ g. absurd (both_ways _ off g) }
+pub returns-then-not-is_given-clause-source : goal.returns-then-not-is_given-clause-source
+returns-then-not-is_given-clause-source c = azimuth_from c.args.dir c.args.hint
 
 pub returns : goal.returns
 unfolding cylinder_meaning
@@ -27,7 +19,7 @@ returns c =
     let hint = c.args.hint in
     let answer : done tt ≡ supporting dir hint = search rules in
     let written : fields c.support_feature_with_azimuth.new.out_features ≡ cylinder_fields k.half_height k.radius dir (azimuth dir hint) =
-    c.support_feature_with_azimuth.ensures ∙ ap (cylinder_fields k.half_height k.radius dir) c.feature_azimuth.ensures.value in
+    c.support_feature_with_azimuth.ensures ∙ ap (cylinder_fields k.half_height k.radius dir) c.feature_azimuth.ensures in
     let after : fields c.support_feature_with_azimuth.new.out_features ≡ cond (direction_given dir hint) (cylinder_meaning k dir hint) (fields c.args.out_feature.now) = search rules in
     record {
       answer = answer;

@@ -1,25 +1,37 @@
 -- The moved vertices are those of `moved`, and the test of them is `all_land_near`.
-use Rattle.std.proofs.Common.{◌≡◌, true, false, [], ◌∷◌, sym, ap, ◌∙◌, rules}
+use Rattle.std.proofs.Common.{◌≡◌, ◌<◌, true, false, length, sym, ap, ◌∙◌, arith, rules}
+use Rattle.math.specs.Poses.{transformed}
 use Rattle.shape.specs.Features.{fields}
 use Rattle.shape.specs.Moves.{moved, all_land_near}
 use Rattle.shape.specs.Nearness.{near_all}
-use Rattle.shape.proofs.Moves.{near_moved}
+use Rattle.std.proofs.Math.ListN.{set}
+use Rattle.std.proofs.lemmas.List.{get_or_default}
+use Rattle.std.proofs.lemmas.List.Edits.{map_over_more}
+use Rattle.shape.proofs.Moves.{near_moved, moved_in_place}
 use Rattle.shape.proofs.polygonal_feature3d.PolygonalFeature.transform_by.Goals as goal
 
+pub loop-v-preserved : goal.loop-v-preserved
+loop-v-preserved c =
+    let l = c.loop-v in
+    let p = c.args.pos.now in
+    let inside : l.v-index < length l.v-items = omega arith in
+    ap (set l.v-items l.v-index) c.transform_point.ensures ∙ map_over_more (transformed p) _ l.v-items l.v-index _ c.loop-v-test.true l.invariant (get_or_default l.v-items l.v-index _ _ inside)
+
 pub returns-then-not-are_near : goal.returns-then-not-are_near
-unfolding moved
 returns-then-not-are_near c =
     let f = fields c.args.self.now in
     let p = c.args.pos.now in
-    let here : (c.moved_if.result ∷ c.moved_if-2.result ∷ c.moved_if-3.result ∷ c.moved_if-4.result ∷ []) ≡ (moved p f).vertices = cc in
+    let long : length f.vertices ≡ 4 = omega arith in
+    let here = moved_in_place p f long c.args.self.now.few c.loop-v.v-items c.loop-v.v-index c.loop-v-test.false c.loop-v.invariant in
     let far : all_land_near p f ≡ false = sym (near_moved p f c.args.self.now.near) ∙ ap near_all (sym here) ∙ sym c.are_near.ensures ∙ c.if-not-are_near.true in
-    search rules
+    record { answer = search rules; after = search rules }
 
 pub returns : goal.returns
 unfolding moved
 returns c =
     let f = fields c.args.self.now in
     let p = c.args.pos.now in
-    let here : (c.moved_if.result ∷ c.moved_if-2.result ∷ c.moved_if-3.result ∷ c.moved_if-4.result ∷ []) ≡ (moved p f).vertices = cc in
+    let long : length f.vertices ≡ 4 = omega arith in
+    let here = moved_in_place p f long c.args.self.now.few c.loop-v.v-items c.loop-v.v-index c.loop-v-test.false c.loop-v.invariant in
     let close : all_land_near p f ≡ true = sym (near_moved p f c.args.self.now.near) ∙ ap near_all (sym here) ∙ sym c.are_near.ensures ∙ c.if-not-are_near.false in
-    search rules
+    record { answer = search rules; after = search rules }

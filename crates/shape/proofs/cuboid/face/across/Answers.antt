@@ -4,7 +4,7 @@ use lib.Ieee.{Float}
 use Rattle.math.specs.Floats.{◌⊗◌}
 use Rattle.math.proofs.Magnitude.{to_T}
 use Rattle.shape.proofs.ExactCorners.{times_side}
-use Rattle.shape.proofs.cuboid.support.across.Goals as goal
+use Rattle.shape.proofs.cuboid.face.across.Goals as goal
 
 pub returns : goal.returns
 returns c =

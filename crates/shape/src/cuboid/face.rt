@@ -1,0 +1,158 @@
+// A face of a cuboid: its four corners, and the codes of its vertices, of its edges and of itself.
+ghost use Rattle.std.specs.Prelude.{◌≡◌, ℕ, ◌+◌, ◌*◌, if◌then◌else◌, map, bit_or};
+ghost use Rattle.std.specs.Float.Ieee as Ieee;
+ghost use Rattle.math.specs.Floats.{◌⊗◌, zero, one};
+ghost use Rattle.math.specs.Vectors.{coordinate};
+ghost use Rattle.shape.specs.Cuboids.{place, side_number, main_axis_of, on_side, Across, face_vertices_of, face_corners, vertex_codes_of, edge_codes_of};
+
+use math::vector::Vector;
+
+#[derive(Clone, Copy)]
+pub(super) enum Axis {
+    X,
+    Y,
+    Z,
+}
+
+#[derive(Clone, Copy)]
+pub(super) enum Side {
+    Negative,
+    Positive,
+}
+
+// The axis that the face lies across, and the side along it.
+#[derive(Clone, Copy)]
+pub(super) struct Face {
+    pub(super) axis: Axis,
+    pub(super) side: Side,
+}
+
+impl Axis {
+    pub(super) fn main(dir: Vector) -> Axis
+        ensures { place result ≡ main_axis_of dir }
+    {
+        match dir.abs().max_position() {
+            0 => Axis::X,
+            1 => Axis::Y,
+            _ => Axis::Z,
+        }
+    }
+
+    pub(super) fn component(self, v: Vector) -> f64
+        ensures { result ≡ coordinate v (place self) }
+    {
+        match self {
+            Axis::X => v.x,
+            Axis::Y => v.y,
+            Axis::Z => v.z,
+        }
+    }
+}
+
+impl Side {
+    // The Rust casts the sign, which is 1 or -1, to a whole number; here a test tells the two apart.
+    pub(super) fn of(sign: f64) -> Side
+        ensures { side_number result ≡ (if Ieee.lt zero sign then 1 else 0) }
+    {
+        if sign > 0.0 {
+            Side::Positive
+        } else {
+            Side::Negative
+        }
+    }
+}
+
+// The coordinate across the face. A product by 1 or -1 is exact.
+fn across(half_extent: f64, sign: f64) -> f64
+    ensures value { result ≡ half_extent ⊗ sign }
+    ensures exact { (side : ℕ) → sign ≡ on_side side one → result ≡ on_side side half_extent }
+{
+    half_extent * sign
+}
+
+fn with_bits(codes: [u8; 4], bits: u8) -> [u8; 4]
+    ensures { result ≡ map (λ code. bit_or code bits) codes }
+{
+    codes.map(|code| code | bits)
+}
+
+impl Face {
+    pub(super) fn vertices(self, he: Vector, sign: f64) -> [Vector; 4]
+        ensures value { result ≡ face_vertices_of he (place self.axis) sign }
+        ensures exact { (side : ℕ) → sign ≡ on_side side one → Across he (place self.axis) side result }
+    {
+        match self.axis {
+            Axis::X => {
+                let x = across(he.x, sign);
+                [
+                    Vector::new(x, he.y, he.z),
+                    Vector::new(x, -he.y, he.z),
+                    Vector::new(x, -he.y, -he.z),
+                    Vector::new(x, he.y, -he.z),
+                ]
+            }
+            Axis::Y => {
+                let y = across(he.y, sign);
+                [
+                    Vector::new(he.x, y, he.z),
+                    Vector::new(-he.x, y, he.z),
+                    Vector::new(-he.x, y, -he.z),
+                    Vector::new(he.x, y, -he.z),
+                ]
+            }
+            Axis::Z => {
+                let z = across(he.z, sign);
+                [
+                    Vector::new(he.x, he.y, z),
+                    Vector::new(he.x, -he.y, z),
+                    Vector::new(-he.x, -he.y, z),
+                    Vector::new(-he.x, he.y, z),
+                ]
+            }
+        }
+    }
+
+    fn corners(self) -> [u8; 4]
+        ensures { result ≡ face_corners (place self.axis) (side_number self.side) }
+    {
+        let sign_index = self.side as u8;
+        match self.axis {
+            Axis::X => with_bits([0b000, 0b010, 0b011, 0b001], sign_index << 2),
+            Axis::Y => with_bits([0b000, 0b100, 0b101, 0b001], sign_index << 1),
+            Axis::Z => with_bits([0b000, 0b010, 0b110, 0b100], sign_index),
+        }
+    }
+
+    // Each vertex has an even code, twice its corner's number.
+    pub(super) fn vertex_codes(self) -> [u8; 4]
+        ensures { result ≡ vertex_codes_of (place self.axis) (side_number self.side) }
+    {
+        self.corners().map(|corner| corner << 1)
+    }
+
+    pub(super) fn edge_codes(self) -> [u8; 4]
+        ensures { result ≡ edge_codes_of (place self.axis) (side_number self.side) }
+    {
+        let sign_index = self.side as u8;
+        match self.axis {
+            Axis::X => with_bits(
+                [0b11_010_000, 0b11_011_010, 0b11_011_001, 0b11_001_000],
+                (sign_index << 2) | (sign_index << 5),
+            ),
+            Axis::Y => with_bits(
+                [0b11_100_000, 0b11_101_100, 0b11_101_001, 0b11_001_000],
+                (sign_index << 1) | (sign_index << 4),
+            ),
+            Axis::Z => with_bits(
+                [0b11_010_000, 0b11_110_010, 0b11_110_100, 0b11_100_000],
+                sign_index | (sign_index << 3),
+            ),
+        }
+    }
+
+    pub(super) fn code(self) -> u8
+        ensures { result ≡ place self.axis + side_number self.side * 3 + 10 }
+    {
+        self.axis as u8 + self.side as u8 * 3 + 10
+    }
+}
