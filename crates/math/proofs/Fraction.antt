@@ -1,13 +1,16 @@
 -- How far along: for c ≤ a ≤ b the rounded quotient (a - c) / (b - c) is at most 1 in size, since rounding keeps the order of the two differences.
 -- A finite value is taken as a sign and a size; `dist` is the size of a difference.
-use Rattle.std.proofs.Common.{◌≡◌, ℕ, zero, suc, ◌+◌, ◌-◌, ◌*◌, ◌^◌, ◌<◌, ◌≤◌, Bool, true, false, cond, not, ◌&&◌, ◌||◌, T, eqb, ltb, ℤ, pos, negsuc, sym, refl, ap, ◌∙◌, subst, inl, inr, true≢false, le_trans, le_of_eq, le_refl, lt_of_lt_of_le, lt_irrefl, mul-le-mul_right, mul_assoc, mul_comm, add-mul, mul-le-mul_left, mul-pos, one-mul, zero-mul, mul-one, sub-add_cancel, mul_right_comm, arith, lit<, eqb→eq, pow_pos, pow-add}
-use native.Mathlib.Nat.{mul-sub}
-use lib.Ieee.{Float, nan, inf, fin, binary64, below, level, low, up, down, round, neg, add, sub, sum, lt, le, eq, fits}
+use Rattle.std.proofs.Common.{◌≡◌, ℕ, zero, suc, ◌+◌, ◌-◌, ◌*◌, ◌^◌, ◌<◌, ◌≤◌, Bool, true, false, cond, not, ◌&&◌, ◌||◌, T, eqb, ltb, ℤ, pos, negsuc, sym, refl, ap, ◌∙◌, subst, inl, inr, le_trans, le_of_eq, le_refl, lt_of_lt_of_le, lt_irrefl, mul-le-mul_right, mul_assoc, mul_comm, add-mul, mul-le-mul_left, mul-pos, one-mul, zero-mul, mul-one, sub-add_cancel, mul_right_comm, arith, lit<, eqb→eq, pow_pos, pow-add}
+use native.Mathlib.Nat.{mul-sub, eq-zero-or-pos}
+use lib.Ieee.{Float, nan, inf, fin, binary64, below, level, low, up, down, round, neg, add, sub, sum, lt, le, eq, is_nan, fits}
 use lib.Ieee.Fits.{down_pos}
-use lib.Ieee.Positive.{num, den, den_pos}
+use lib.Ieee.Positive.{num, den, den_pos, first_pos}
 use lib.Ieee.Scale.{round_same}
-use Rattle.std.specs.Float.{float_with_sign}
-use Rattle.std.proofs.lemmas.Bool.{cases_lt, cases_Bool, ltb-true, ltb-false, le-ltb, eqb-true, and_parts, eq-eqb}
+use lib.Ieee.Bits.{is_true}
+use Rattle.std.specs.Float.{float_with_sign, NotNan}
+use Rattle.std.proofs.lemmas.Bool.{cases_lt, ltb-true, ltb-false, eq-eqb}
+use Rattle.std.proofs.lemmas.Float as Laws
+use Rattle.std.proofs.lemmas.Float.{T_from_true, T_from_false, eq-not_lt, lt-or-eq, le_of_not-lt}
 use Rattle.math.specs.Floats.{◌⊕◌, ◌⊖◌, ◌⊘◌, size, one}
 use Rattle.math.specs.Magnitude.{bound, within}
 use Rattle.math.proofs.AzimuthMagnitude.{power_value}
@@ -44,39 +47,21 @@ dist_mono true x false y true z h k = omega arith
 dist_mono true x true y false z h k = omega arith
 dist_mono true x true y true z h k = omega arith
 
--- the same from the other end
-dist_mono_high : (s : Bool) (x : ℕ) (t : Bool) (y : ℕ) (r : Bool) (z : ℕ) → AtMost r z s x → AtMost s x t y → dist t y s x ≤ dist t y r z
-unfolding dist absdiff
-dist_mono_high false x false y false z h k = omega arith
-dist_mono_high false x false y true z h k = omega arith
-dist_mono_high false x true y false z h k = omega arith
-dist_mono_high false x true y true z h k = omega arith
-dist_mono_high true x false y false z h k = omega arith
-dist_mono_high true x false y true z h k = omega arith
-dist_mono_high true x true y false z h k = omega arith
-dist_mono_high true x true y true z h k = omega arith
-
-scale_le : (x y k : ℕ) → x ≤ y → x * k ≤ y * k
-scale_le x y k h = mul-le-mul_right k h
-
-scale_zero : (x k : ℕ) → x ≡ 0 → x * k ≡ 0
-scale_zero x k h = ap (λ (z : ℕ). z * k) h ∙ zero-mul k
-
-pub at_most_scale : (s : Bool) (x : ℕ) (t : Bool) (y k : ℕ) → AtMost s x t y → AtMost s (x * k) t (y * k)
-at_most_scale false x false y k h = scale_le x y k h
-at_most_scale false x true y k h = (scale_zero x k h.0, scale_zero y k h.1)
+at_most_scale : (s : Bool) (x : ℕ) (t : Bool) (y k : ℕ) → AtMost s x t y → AtMost s (x * k) t (y * k)
+at_most_scale false x false y k h = mul-le-mul_right k h
+at_most_scale false x true y k h = (rw h.0 (zero-mul k), rw h.1 (zero-mul k))
 at_most_scale true x false y k h = tt
-at_most_scale true x true y k h = scale_le y x k h
+at_most_scale true x true y k h = mul-le-mul_right k h
 
 sub_mul : (x y k : ℕ) → (x - y) * k ≡ x * k - y * k
-sub_mul x y k = mul_comm (x - y) k ∙ mul-sub k x y ∙ ap (λ (z : ℕ). z - k * y) (mul_comm k x) ∙ ap (λ (z : ℕ). x * k - z) (mul_comm k y)
+sub_mul x y k = rw (mul_comm (x - y) k, mul-sub k x y, mul_comm k x, mul_comm k y)
 
 dist_scale : (s : Bool) (x : ℕ) (t : Bool) (y k : ℕ) → dist s (x * k) t (y * k) ≡ dist s x t y * k
 unfolding dist absdiff
-dist_scale false x false y k = ap (λ (z : ℕ). z + (y * k - x * k)) (sym (sub_mul x y k)) ∙ ap (λ (z : ℕ). (x - y) * k + z) (sym (sub_mul y x k)) ∙ sym (add-mul (x - y) (y - x) k)
-dist_scale true x true y k = ap (λ (z : ℕ). z + (y * k - x * k)) (sym (sub_mul x y k)) ∙ ap (λ (z : ℕ). (x - y) * k + z) (sym (sub_mul y x k)) ∙ sym (add-mul (x - y) (y - x) k)
-dist_scale false x true y k = sym (add-mul x y k)
-dist_scale true x false y k = sym (add-mul x y k)
+dist_scale false x false y k = simp (add-mul, sub_mul)
+dist_scale true x true y k = simp (add-mul, sub_mul)
+dist_scale false x true y k = simp add-mul
+dist_scale true x false y k = simp add-mul
 
 -- ---- floats by sign and size
 
@@ -85,19 +70,6 @@ at_most_of_not_lt false x false y h = ltb-false x y h
 at_most_of_not_lt false x true y h = tt
 at_most_of_not_lt true x false y h = let z = ltb-false 0 (x + y) h in (omega arith, omega arith)
 at_most_of_not_lt true x true y h = ltb-false y x h
-
-at_most_of_lt : (s : Bool) (x : ℕ) (t : Bool) (y : ℕ) → below s x t y ≡ true → AtMost s x t y
-at_most_of_lt false x false y h = let l = ltb-true x y h in omega arith
-at_most_of_lt false x true y h = no h
-at_most_of_lt true x false y h = tt
-at_most_of_lt true x true y h = let l = ltb-true y x h in omega arith
-
-dist_of_lt : (s : Bool) (x : ℕ) (t : Bool) (y : ℕ) → below s x t y ≡ true → 0 < dist t y s x
-unfolding dist absdiff
-dist_of_lt false x false y h = let l = ltb-true x y h in omega arith
-dist_of_lt false x true y h = no h
-dist_of_lt true x false y h = let l = ltb-true 0 (x + y) h in omega arith
-dist_of_lt true x true y h = let l = ltb-true y x h in omega arith
 
 -- no distance, so level
 level_of_dist : (s : Bool) (x : ℕ) (t : Bool) (y : ℕ) → dist t y s x ≡ 0 → level s x t y ≡ true
@@ -156,17 +128,6 @@ module _ (sa : Bool) (ma : ℕ) (ea : ℤ) (sb : Bool) (mb : ℕ) (eb : ℤ) (sc
       let l : dist sa (A * dc * db) sc (C * da * db) ≡ gap sa ma ea sc mc ec * db = dist_scale sa (A * dc) sc (C * da) db in
       let r : dist sb (B * dc * da) sc (C * da * db) ≡ gap sb mb eb sc mc ec * da = ap (λ (x : ℕ). dist sb (B * dc * da) sc x) (mul_right_comm C da db) ∙ dist_scale sb (B * dc) sc (C * db) da in
       le_trans (le_of_eq (sym l)) (le_trans (dist_mono sa (A * dc * db) sb (B * dc * da) sc (C * da * db) (at_most_scale sc (C * da) sa (A * dc) db h) p) (le_of_eq r))
-
-  gap_order_high : AtMost sc (C * down ea) sa (A * down ec) → AtMost sa (A * down eb) sb (B * down ea) → gap sb mb eb sa ma ea * down ec ≤ gap sb mb eb sc mc ec * down ea
-  gap_order_high h k =
-      let da = down ea in
-      let db = down eb in
-      let dc = down ec in
-      let p : AtMost sc (C * db * da) sa (A * db * dc) =
-      subst (λ (x : ℕ). AtMost sc x sa (A * db * dc)) (mul_right_comm C da db) (subst (λ (x : ℕ). AtMost sc (C * da * db) sa x) (mul_right_comm A dc db) (at_most_scale sc (C * da) sa (A * dc) db h)) in
-      let l : dist sb (B * da * dc) sa (A * db * dc) ≡ gap sb mb eb sa ma ea * dc = dist_scale sb (B * da) sa (A * db) dc in
-      let r : dist sb (B * da * dc) sc (C * db * da) ≡ gap sb mb eb sc mc ec * da = ap (λ (x : ℕ). dist sb x sc (C * db * da)) (mul_right_comm B da dc) ∙ dist_scale sb (B * dc) sc (C * db) da in
-      le_trans (le_of_eq (sym l)) (le_trans (dist_mono_high sa (A * db * dc) sb (B * da * dc) sc (C * db * da) p (at_most_scale sa (A * db) sb (B * da) dc k)) (le_of_eq r))
 
   -- the nearer difference is within the size of the farther one
   nearer : AtMost sc (C * down ea) sa (A * down ec) → AtMost sa (A * down eb) sb (B * down ea) → within (size (fin sb mb eb ⊖ fin sc mc ec)) (fin sa ma ea ⊖ fin sc mc ec) ≡ true
@@ -227,22 +188,11 @@ quotient x (fin s n d) r e R N h =
     let q = down d in
     let P : 0 < p = subst (λ (z : Float). 0 < num z) (sym e) N in
     let small : Small x p q = small_of_within (fin false n d) x refl (subst (λ (z : Float). within z x ≡ true) (sym e) h) in
-    let some : 0 < n = positive n P in
+    let some : 0 < n = first_pos n (up d) P in
     let unit = round_same binary64 false (p * q) (p * q) 1 1 (mul-pos P (down_pos d)) (lit< tt) (mul-one (p * q) ∙ sym (one-mul (p * q))) ∙ unit_round in
     subst (λ (b : Float). within b (x ⊘ fin s n d) ≡ true) unit (small_div x (fin s n d) p q p q (down_pos d) P small (some, le_refl (p * q)))
-  where
-    positive : (n : ℕ) → 0 < n * up d → 0 < n
-    positive zero h = absurd (lt_irrefl 0 (subst (λ (z : ℕ). 0 < z) (zero-mul (up d)) h))
-    positive (suc n) h = omega arith
 
 -- ---- c ≤ a ≤ b, as floats
-
-dist_of_level : (s : Bool) (x : ℕ) (t : Bool) (y : ℕ) → level s x t y ≡ true → dist t y s x ≡ 0
-unfolding dist absdiff
-dist_of_level false x false y h = let e = eqb-true x y (and_parts _ _ h).0 in omega arith
-dist_of_level true x true y h = let e = eqb-true x y (and_parts _ _ h).0 in omega arith
-dist_of_level false x true y h = let e = eqb-true x y (and_parts _ _ h).0 in let z = eqb-true x 0 (and_parts (eqb x y) (eqb x 0) h).1 in omega arith
-dist_of_level true x false y h = let e = eqb-true x y (and_parts _ _ h).0 in let z = eqb-true x 0 (and_parts (eqb x y) (eqb x 0) h).1 in omega arith
 
 -- nothing infinite and no NaN is within a bound
 no_nan : {X : Type 0} (k : Float) → bound k ≡ true → within k nan ≡ true → X
@@ -267,22 +217,14 @@ module _ (sa : Bool) (ma : ℕ) (ea : ℤ) (sb : Bool) (mb : ℕ) (eb : ℤ) (sc
       let g = gap sb mb eb sc mc ec in
       let r = round binary64 false g (down eb * down ec) in
       let e : size (b ⊖ c) ≡ r = size_difference sb mb eb sc mc ec in
-      let some : 0 < g = apart g (λ (z : g ≡ 0). true≢false (sym (level_of_dist sc (mc * up ec * down eb) sb (mb * up eb * down ec) z) ∙ n)) in
+      let some : 0 < g = elim (eq-zero-or-pos g) [ inl z ↦ no (sym n ∙ level_of_dist sc (mc * up ec * down eb) sb (mb * up eb * down ec) z) | inr p ↦ p ] in
       let R : bound r ≡ true = bounded g (down eb * down ec) e in
       let lowest = round binary64 false 1 (2 ^ low binary64) in
       let unit : within r lowest ≡ true = within_round binary64 false 1 (2 ^ low binary64) g (down eb * down ec) (pow_pos (low binary64)) (mul-pos (down_pos eb) (down_pos ec)) (le_trans (le_of_eq (one-mul (down eb * down ec))) (gap_unit sb mb eb sc mc ec F G some)) in
       let least = value_small lowest 1 (2 ^ low binary64) (num r) (den r) (power_value 0 (low binary64) (omega arith) (omega arith)) (small_of_within r lowest R unit) in
       let near = nearer sa ma ea sb mb eb sc mc ec (at_most_of_not_lt sa (ma * up ea * down ec) sc (mc * up ec * down ea) h) (at_most_of_not_lt sb (mb * up eb * down ea) sa (ma * up ea * down eb) j) in
-      quotient (a ⊖ c) (b ⊖ c) r e R (above_zero (num r) (den r) (den_pos r) least) (subst (λ (z : Float). within z (a ⊖ c) ≡ true) e near)
+      quotient (a ⊖ c) (b ⊖ c) r e R (first_pos (num r) (2 ^ low binary64) (lt_of_lt_of_le (den_pos r) (le_trans (le_of_eq (sym (one-mul (den r)))) least))) (subst (λ (z : Float). within z (a ⊖ c) ≡ true) e near)
     where
-      apart : (n : ℕ) → (n ≡ 0 → ⊥) → 0 < n
-      apart zero h = absurd (h refl)
-      apart (suc n) h = omega arith
-
-      above_zero : (x y : ℕ) → 0 < y → 1 * y ≤ x * 2 ^ low binary64 → 0 < x
-      above_zero zero y Y h = absurd (lt_irrefl 0 (lt_of_lt_of_le Y (le_trans (le_of_eq (sym (one-mul y))) (le_trans h (le_of_eq (zero-mul (2 ^ low binary64)))))))
-      above_zero (suc x) y Y h = omega arith
-
       bounded : (n d : ℕ) → size (b ⊖ c) ≡ round binary64 false n d → bound (round binary64 false n d) ≡ true
       bounded n d e =
           elim (round_cases n d) [
@@ -301,60 +243,18 @@ fraction_within k (fin sa ma ea) (fin sb mb eb) (inf s) K KK A B C F G h j n = n
 fraction_within k (fin sa ma ea) (fin sb mb eb) (fin sc mc ec) K KK A B C F G h j n =
     written sa ma ea sb mb eb sc mc ec (k ⊕ k) KK (sub_within k k (fin sb mb eb) (fin sc mc ec) K K B C) F G h j n
 
--- For c ≤ a ≤ b, where c equals b all three are equal.
+number : (k x : Float) → bound k ≡ true → within k x ≡ true → NotNan x
+unfolding is_nan
+number k nan K h = no_nan k K h
+number k (inf s) K h = tt
+number k (fin s m e) K h = tt
+
+-- For c ≤ a ≤ b, where c equals b all three are equal: were c below a or a below b, c would be below b.
 pub squeezed : (k a b c : Float) → bound k ≡ true → within k a ≡ true → within k b ≡ true → within k c ≡ true → lt a c ≡ false → lt b a ≡ false → eq c b ≡ true → (eq c a ≡ true) × (eq a b ≡ true)
-unfolding lt eq
-squeezed k nan b c K A B C h j n = no_nan k K A
-squeezed k (inf s) b c K A B C h j n = no_infinity k s K A
-squeezed k (fin sa ma ea) nan c K A B C h j n = no_nan k K B
-squeezed k (fin sa ma ea) (inf s) c K A B C h j n = no_infinity k s K B
-squeezed k (fin sa ma ea) (fin sb mb eb) nan K A B C h j n = no_nan k K C
-squeezed k (fin sa ma ea) (fin sb mb eb) (inf s) K A B C h j n = no_infinity k s K C
-squeezed k (fin sa ma ea) (fin sb mb eb) (fin sc mc ec) K A B C h j n =
-    let lo = at_most_of_not_lt sa (ma * up ea * down ec) sc (mc * up ec * down ea) h in
-    let hi = at_most_of_not_lt sb (mb * up eb * down ea) sa (ma * up ea * down eb) j in
-    let z : gap sb mb eb sc mc ec ≡ 0 = dist_of_level sc (mc * up ec * down eb) sb (mb * up eb * down ec) n in
-    let nothing : gap sb mb eb sc mc ec * down ea ≡ 0 = ap (λ (x : ℕ). x * down ea) z ∙ zero-mul (down ea) in (
-      level_of_dist sc (mc * up ec * down ea) sa (ma * up ea * down ec) (vanishes (gap sa ma ea sc mc ec) (down eb) (down_pos eb) (le_trans (gap_order sa ma ea sb mb eb sc mc ec lo hi) (le_of_eq nothing))),
-      level_of_dist sa (ma * up ea * down eb) sb (mb * up eb * down ea) (vanishes (gap sb mb eb sa ma ea) (down ec) (down_pos ec) (le_trans (gap_order_high sa ma ea sb mb eb sc mc ec lo hi) (le_of_eq nothing))),
+squeezed k a b c K A B C h j n =
+    let low = le_of_not-lt a c (number k a K A) (number k c K C) (T_from_false _ h) in
+    let high = le_of_not-lt b a (number k b K B) (number k a K A) (T_from_false _ j) in
+    let level = eq-not_lt c b (T_from_true _ n) in (
+      elim (lt-or-eq c a low) [ inl l ↦ absurd (level (Laws.lt_of_lt_of_le c a b l high)) | inr e ↦ is_true _ e ],
+      elim (lt-or-eq a b high) [ inl l ↦ absurd (level (Laws.lt_of_le_of_lt c a b low l)) | inr e ↦ is_true _ e ],
     )
-  where
-    vanishes : (x k : ℕ) → 0 < k → x * k ≤ 0 → x ≡ 0
-    vanishes zero k K h = refl
-    vanishes (suc x) k K h = absurd (lt_irrefl 0 (lt_of_lt_of_le (mul-pos {m = suc x} (omega arith) K) h))
-
--- what is below is not equal
-below_not_level : (s : Bool) (x : ℕ) (t : Bool) (y : ℕ) → below s x t y ≡ true → level s x t y ≡ false
-below_not_level s x t y h = elim (cases_Bool (level s x t y)) [ inr f ↦ f | inl l ↦ absurd (lt_irrefl 0 (subst (λ (z : ℕ). 0 < z) (dist_of_level s x t y l) (dist_of_lt s x t y h))) ]
-
-pub lt_not_eq : (x y : Float) → lt x y ≡ true → eq x y ≡ false
-unfolding lt eq
-lt_not_eq nan y h = no h
-lt_not_eq (inf s) nan h = no h
-lt_not_eq (inf true) (inf true) h = no h
-lt_not_eq (inf true) (inf false) h = refl
-lt_not_eq (inf false) (inf t) h = no h
-lt_not_eq (inf s) (fin t n d) h = refl
-lt_not_eq (fin s m e) nan h = no h
-lt_not_eq (fin s m e) (inf t) h = refl
-lt_not_eq (fin s m e) (fin t n d) h = below_not_level s (m * up e * down d) t (n * up d * down e) h
-
-below_asym : (s : Bool) (x : ℕ) (t : Bool) (y : ℕ) → below s x t y ≡ true → below t y s x ≡ false
-below_asym false x false y h = let l = ltb-true x y h in le-ltb y x (omega arith)
-below_asym false x true y h = no h
-below_asym true x false y h = refl
-below_asym true x true y h = let l = ltb-true y x h in le-ltb x y (omega arith)
-
-pub lt_asym : (x y : Float) → lt x y ≡ true → lt y x ≡ false
-unfolding lt
-lt_asym nan y h = no h
-lt_asym (inf s) nan h = no h
-lt_asym (inf true) (inf true) h = no h
-lt_asym (inf true) (inf false) h = refl
-lt_asym (inf false) (inf t) h = no h
-lt_asym (inf true) (fin t n d) h = refl
-lt_asym (inf false) (fin t n d) h = no h
-lt_asym (fin s m e) nan h = no h
-lt_asym (fin s m e) (inf true) h = no h
-lt_asym (fin s m e) (inf false) h = refl
-lt_asym (fin s m e) (fin t n d) h = below_asym s (m * up e * down d) t (n * up d * down e) h

@@ -4,8 +4,7 @@ use lib.Ieee.{Float, lt}
 use Rattle.std.proofs.lemmas.Bool.{and_parts, not-true}
 use Rattle.math.specs.Vectors.{vector_number, coordinate, FirstLargest}
 use Rattle.math.specs.declared.vector.Vector.{Vector}
-use Rattle.math.proofs.Fraction.{lt_asym}
-use Rattle.math.proofs.Order.{lt_after, lt_trans, lt_irrefl}
+use Rattle.math.proofs.Order.{lt_after, lt_trans, lt_irrefl, lt_asym}
 
 module _ (v : Vector) where
   -- from the three comparisons with each coordinate, at any place

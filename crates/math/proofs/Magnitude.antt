@@ -1,17 +1,16 @@
 -- The laws of magnitude: from bounds on the arguments of an operation to a bound on its result.
 -- A bound is itself an f64, and rounding keeps order, so the bound of a result is the same operation on the bounds.
-use Rattle.std.proofs.Common.{◌≡◌, ℕ, zero, suc, ◌+◌, ◌-◌, ◌*◌, ◌/◌, ◌%◌, ◌^◌, ◌<◌, ◌≤◌, Bool, true, false, cond, ◌&&◌, ◌||◌, T, eqb, ltb, ◌⊎◌, ℤ, sym, refl, ap, ◌∙◌, subst, inl, inr, true≢false, le_trans, le_of_eq, le_refl, lt_of_lt_of_le, lt_of_le_of_lt, le_of_lt, add-le-add, lt_irrefl, mul-le-mul_right, mul_assoc, mul_comm, add-mul, mul-le-mul, lt_of_mul-lt-mul_right, eq-or-lt_of_le, mul-lt-mul_of_pos_right, mul-pos, mul_right_comm, mul_left_comm, arith, eqb→eq, ltb→lt, lt→ltb}
+use Rattle.std.proofs.Common.{◌≡◌, ℕ, zero, suc, ◌+◌, ◌-◌, ◌*◌, ◌/◌, ◌%◌, ◌^◌, ◌<◌, ◌≤◌, Bool, true, false, cond, ◌&&◌, ◌||◌, T, eqb, ltb, ℤ, sym, refl, ap, ◌∙◌, subst, inl, inr, true≢false, le_trans, le_of_eq, le_refl, le_of_lt, lt_irrefl, mul-le-mul_right, mul-le-mul, lt_of_mul-lt-mul_right, eq-or-lt_of_le, mul-lt-mul_of_pos_right, mul-pos, arith, eqb→eq}
 use mathlib.Core.Bool.{beq}
 use Prim.Native.Nat.{compare}
-use native.Mathlib.Nat.{mul-mul-mul_comm}
-use lib.Dec.{eqb_refl}
 use lib.Ieee.{Float, Format, binary64, nan, inf, fin, prec, emax, low, unlike, up, down, nearest, odd, units, round, neg, add, sub, mul, div, sum, le, lt, eq}
 use lib.Ieee as Ieee
-use lib.Ieee.Fits.{and_l, down_pos, up_pos, round_is}
+use lib.Ieee.Fits.{down_pos, up_pos, round_is}
 use lib.Ieee.Bits.{is_true}
 use lib.Ieee.Order.{round_mono}
 use lib.Ieee.Positive.{num, den, den_pos, through}
 use Rattle.std.specs.Float.{float_with_sign}
+use Rattle.std.proofs.lemmas.Bool.{ltb-true, lt-ltb, eqb-true, eq-eqb, and_parts, and_from, or_cases, or_left, or_right}
 use Rattle.math.specs.Floats.{size, one}
 use Rattle.math.specs.Magnitude.{bound, within}
 
@@ -26,34 +25,11 @@ Small (fin s m e) p q = m * up e * q ≤ p * down e
 
 -- ---- the order of floats, as one of fractions
 
-or_split : (a b : Bool) → T (a || b) → T a ⊎ T b
-or_split true b t = inl tt
-or_split false b t = inr t
+of_test : (a b : ℕ) → (ltb a b || (eqb a b && true)) ≡ true → a ≤ b
+of_test a b t = elim (or_cases _ _ t) [ inl l ↦ le_of_lt (ltb-true a b l) | inr e ↦ le_of_eq (eqb-true a b (and_parts _ _ e).0) ]
 
-lt_or_eq : (a b : ℕ) → T (ltb a b || (eqb a b && true)) → a ≤ b
-lt_or_eq a b t = elim (or_split (ltb a b) (eqb a b && true) t) [ inl u ↦ le_of_lt (ltb→lt a b u) | inr u ↦ le_of_eq (eqb→eq a b (and_l (eqb a b) true u)) ]
-
-or_l : (a b : Bool) → T a → T (a || b)
-or_l true b t = tt
-or_l false b t = absurd t
-
-or_r : (a b : Bool) → T b → T (a || b)
-or_r true b t = tt
-or_r false b t = t
-
-and_true : (x : Bool) → T x → T (x && true)
-and_true true t = tt
-and_true false t = t
-
-of_le : (a b : ℕ) → a ≤ b → T (ltb a b || (eqb a b && true))
-of_le a b h =
-    elim (eq-or-lt_of_le h) [
-      | inl p ↦ or_r (ltb a b) (eqb a b && true) (subst (λ (x : ℕ). T (eqb a x && true)) p (and_true (eqb a a) (eqb_refl a)))
-      | inr q ↦ or_l (ltb a b) (eqb a b && true) (lt→ltb a b q)
-    ]
-
-pub to_T : (b : Bool) → b ≡ true → T b
-to_T b e = subst T (sym e) tt
+to_test : (a b : ℕ) → a ≤ b → (ltb a b || (eqb a b && true)) ≡ true
+to_test a b h = elim (eq-or-lt_of_le h) [ inl e ↦ or_right _ _ (and_from _ _ (eq-eqb a b e) refl) | inr l ↦ or_left _ _ (lt-ltb a b l) ]
 
 pub small_of_within : (b x : Float) → bound b ≡ true → within b x ≡ true → Small x (num b) (den b)
 unfolding within float_with_sign le lt eq
@@ -62,7 +38,7 @@ small_of_within (inf s) x k h = no k
 small_of_within (fin true n d) x k h = no k
 small_of_within (fin false n d) nan k h = no h
 small_of_within (fin false n d) (inf s) k h = no h
-small_of_within (fin false n d) (fin s m e) k h = lt_or_eq (m * up e * down d) (n * up d * down e) (to_T _ h)
+small_of_within (fin false n d) (fin s m e) k h = of_test (m * up e * down d) (n * up d * down e) h
 
 pub within_of_small : (b x : Float) → bound b ≡ true → Small x (num b) (den b) → within b x ≡ true
 unfolding within float_with_sign le lt eq
@@ -71,7 +47,7 @@ within_of_small (inf s) x k h = no k
 within_of_small (fin true n d) x k h = no k
 within_of_small (fin false n d) nan k h = absurd h
 within_of_small (fin false n d) (inf s) k h = absurd h
-within_of_small (fin false n d) (fin s m e) k h = is_true _ (of_le (m * up e * down d) (n * up d * down e) h)
+within_of_small (fin false n d) (fin s m e) k h = to_test (m * up e * down d) (n * up d * down e) h
 
 -- ---- a larger bound
 pub small_more : (x : Float) (p q r s : ℕ) → 0 < q → p * s ≤ r * q → Small x p q → Small x r s
@@ -131,8 +107,7 @@ small_mul (inf a) y p q r s Q S h k = absurd h
 small_mul (fin a m e) nan p q r s Q S h k = absurd k
 small_mul (fin a m e) (inf b) p q r s Q S h k = absurd k
 small_mul (fin a m e) (fin b n d) p q r s Q S h k =
-    within_round binary64 (unlike a b) (m * up e * (n * up d)) (down e * down d) (p * r) (q * s) (mul-pos (down_pos e) (down_pos d)) (mul-pos Q S)
-    (le_trans (le_of_eq (mul-mul-mul_comm (m * up e) (n * up d) q s)) (le_trans (mul-le-mul h k) (le_of_eq (mul-mul-mul_comm p (down e) r (down d)))))
+    within_round binary64 (unlike a b) (m * up e * (n * up d)) (down e * down d) (p * r) (q * s) (mul-pos (down_pos e) (down_pos d)) (mul-pos Q S) (omega (arith, mul-le-mul h k))
 
 -- a sum or a difference of two sizes is at most their sum
 sum_within : (a b : Bool) (x y c p q : ℕ) → 0 < c → 0 < q → (x + y) * q ≤ p * c → within (round binary64 false p q) (sum binary64 a x b y c) ≡ true
@@ -151,10 +126,7 @@ sum_within a b x y c p q C Q h = by_sign (beq a b)
     by_sign false = by_order (ltb x y)
 
 cross_sum : (x dx p q y dy r s : ℕ) → x * q ≤ p * dx → y * s ≤ r * dy → (x * dy + y * dx) * (q * s) ≤ (p * s + r * q) * (dx * dy)
-cross_sum x dx p q y dy r s h k =
-    let a : x * dy * (q * s) ≤ p * s * (dx * dy) = simp (mul_assoc, mul_comm, mul_left_comm) (simp (mul_assoc, mul_comm) at (mul-le-mul_right (dy * s) h)) in
-    let b : y * dx * (q * s) ≤ r * q * (dx * dy) = simp (mul_assoc, mul_comm, mul_left_comm) (simp (mul_assoc, mul_comm, mul_left_comm) at (mul-le-mul_right (dx * q) k)) in
-    le_trans (le_of_eq (add-mul (x * dy) (y * dx) (q * s))) (le_trans (add-le-add a b) (le_of_eq (sym (add-mul (p * s) (r * q) (dx * dy)))))
+cross_sum x dx p q y dy r s h k = omega (arith, mul-le-mul_right (dy * s) h, mul-le-mul_right (dx * q) k)
 
 small_add : (x y : Float) (p q r s : ℕ) → 0 < q → 0 < s → Small x p q → Small y r s → within (round binary64 false (p * s + r * q) (q * s)) (add binary64 x y) ≡ true
 unfolding add
@@ -184,7 +156,7 @@ small_div (fin a m e) (fin b n d) p q r s Q R h k = go (eqb n 0) (eqb→eq n 0)
     value = round binary64 (unlike a b) (m * up e * down d) (n * up d * down e)
 
     cross : m * up e * down d * (r * q) ≤ p * s * (n * up d * down e)
-    cross = simp (mul_assoc, mul_comm, mul_left_comm) (simp (mul_assoc, mul_comm, mul_left_comm) at (mul-le-mul h k.1))
+    cross = omega (arith, mul-le-mul h k.1)
 
     go : (t : Bool) → (T t → n ≡ 0) → within (round binary64 false (p * s) (r * q)) (cond t (cond (eqb m 0) nan (inf (unlike a b))) value) ≡ true
     go true z = absurd (lt_irrefl 0 (subst (λ (i : ℕ). 0 < i) (z tt) k.0))
@@ -241,14 +213,11 @@ difference_within b x y B own X Y h k =
         let s = sub binary64 (fin false m e) (fin false n d) in
         let p = num b in
         let q = den b in
-        let x : m * up e * down d * q ≤ p * (down e * down d) = simp (mul_assoc, mul_comm, mul_left_comm) (simp (mul_assoc, mul_comm) at (mul-le-mul_right (down d) (small_of_within b (fin false m e) B g))) in
-        let y : n * up d * down e * q ≤ p * (down e * down d) = simp (mul_assoc, mul_comm, mul_left_comm) (simp (mul_assoc, mul_comm) at (mul-le-mul_right (down e) (small_of_within b (fin false n d) B j))) in
+        let x : m * up e * down d * q ≤ p * (down e * down d) = omega (arith, mul-le-mul_right (down d) (small_of_within b (fin false m e) B g)) in
+        let y : n * up d * down e * q ≤ p * (down e * down d) = omega (arith, mul-le-mul_right (down e) (small_of_within b (fin false n d) B j)) in
         subst (λ (z : Float). within z s ≡ true) own (apart_within (m * up e * down d) (n * up d * down e) (down e * down d) p q (mul-pos (down_pos e) (down_pos d)) (den_pos b) x y)
 
 -- ---- strictly below a larger bound
-
-ltb_of_lt : (a b : ℕ) → a < b → ltb a b ≡ true
-ltb_of_lt a b h = is_true _ (lt→ltb a b h)
 
 pub below_of_within : (b l x : Float) → bound b ≡ true → lt b l ≡ true → within b x ≡ true → lt (size x) l ≡ true
 unfolding lt float_with_sign
@@ -262,10 +231,8 @@ below_of_within b l x B h w = bound_is (λ b'. lt b' l ≡ true → Small x (num
     below_written n d (fin true j i) (fin s m e) g k = no g
     below_written n d (fin false j i) (fin s m e) g k =
         let cross : m * up e * down i * down d < j * up i * down e * down d =
-        lt_of_le_of_lt
-        (le_trans (le_of_eq (mul_right_comm (m * up e) (down i) (down d))) (le_trans (mul-le-mul_right (down i) k) (le_of_eq (mul_right_comm (n * up d) (down e) (down i)))))
-        (lt_of_lt_of_le (mul-lt-mul_of_pos_right (ltb→lt (n * up d * down i) (j * up i * down d) (to_T _ g)) (down_pos e)) (le_of_eq (mul_right_comm (j * up i) (down d) (down e)))) in
-        ltb_of_lt (m * up e * down i) (j * up i * down e) (lt_of_mul-lt-mul_right (down d) cross)
+        omega (arith, mul-le-mul_right (down i) k, mul-lt-mul_of_pos_right (ltb-true (n * up d * down i) (j * up i * down d) g) (down_pos e)) in
+        lt-ltb (m * up e * down i) (j * up i * down e) (lt_of_mul-lt-mul_right (down d) cross)
 
 -- one rounds to itself
 pub unit_round : round binary64 false 1 1 ≡ one

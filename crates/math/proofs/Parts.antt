@@ -1,7 +1,6 @@
 -- A sum of two numbers that are not negative is no smaller than either, and a square that is small has a small root: what bounds a sum of squares bounds each term.
-use Rattle.std.proofs.Common.{◌≡◌, ℕ, zero, suc, ◌+◌, ◌-◌, ◌*◌, ◌/◌, ◌%◌, ◌^◌, ◌<◌, ◌≤◌, Bool, true, false, cond, T, ltb, ◌⊎◌, ℤ, sym, refl, ap, ◌∙◌, subst, inl, inr, le_trans, le_of_eq, le-add_right, le_of_lt, mul-le-mul_right, mul_assoc, mul_comm, mul-le-mul, mul-pos, le-add_left}
+use Rattle.std.proofs.Common.{◌≡◌, ℕ, zero, suc, ◌+◌, ◌-◌, ◌*◌, ◌/◌, ◌%◌, ◌^◌, ◌<◌, ◌≤◌, Bool, true, false, cond, T, ltb, ◌⊎◌, ℤ, sym, refl, ap, ◌∙◌, subst, inl, inr, le_of_eq, le_of_lt, mul-le-mul, mul-pos, arith}
 use Prim.Native.Nat.{compare}
-use native.Mathlib.Nat.{mul-mul-mul_comm}
 use lib.Ieee as Ieee
 use lib.Ieee.{Float, nan, inf, fin, binary64, prec, emax, low, up, down, nearest, odd, units, round, add, mul, sum, lt, eq, le, fits}
 use lib.Ieee.Exact.{HasValue}
@@ -66,19 +65,13 @@ add_is : (m : ℕ) (e : ℤ) (n : ℕ) (d : ℤ) → fin false m e ⊕ fin false
 unfolding add sum
 add_is m e n d = refl
 
-left_fraction : (x de y dd : ℕ) → x * (de * dd) ≤ (x * dd + y * de) * de
-left_fraction x de y dd = le_trans (le_of_eq (simp (mul_assoc, mul_comm))) (mul-le-mul_right de (le-add_right (x * dd) (y * de)))
-
-right_fraction : (x de y dd : ℕ) → y * (de * dd) ≤ (x * dd + y * de) * dd
-right_fraction x de y dd = le_trans (le_of_eq (sym (mul_assoc y de dd))) (mul-le-mul_right dd (le-add_left (y * de) (x * dd)))
-
 module _ (c : Float) (C : bound c ≡ true) where
   pub sum_left : (x y : Float) → bound x ≡ true → bound y ≡ true → T (fits binary64 x) → within c (x ⊕ y) ≡ true → within c x ≡ true
   sum_left x y X Y = bound_is (λ x'. T (fits binary64 x') → within c (x' ⊕ y) ≡ true → within c x' ≡ true) (λ m e. bound_is (λ y'. T (fits binary64 (fin false m e)) → within c (fin false m e ⊕ y') ≡ true → within c (fin false m e) ≡ true) (written m e) y Y) x X
     where
       written : (m : ℕ) (e : ℤ) (n : ℕ) (d : ℤ) → T (fits binary64 (fin false m e)) → within c (fin false m e ⊕ fin false n d) ≡ true → within c (fin false m e) ≡ true
       written m e n d F h =
-          below_rounded c (fin false m e) (m * up e * down d + n * up d * down e) (down e * down d) C refl F (mul-pos (down_pos e) (down_pos d)) (left_fraction (m * up e) (down e) (n * up d) (down d))
+          below_rounded c (fin false m e) (m * up e * down d + n * up d * down e) (down e * down d) C refl F (mul-pos (down_pos e) (down_pos d)) (omega arith)
           (subst (λ (z : Float). within c z ≡ true) (add_is m e n d) h)
 
   pub sum_right : (x y : Float) → bound x ≡ true → bound y ≡ true → T (fits binary64 y) → within c (x ⊕ y) ≡ true → within c y ≡ true
@@ -86,7 +79,7 @@ module _ (c : Float) (C : bound c ≡ true) where
     where
       written : (m : ℕ) (e : ℤ) (n : ℕ) (d : ℤ) → T (fits binary64 (fin false n d)) → within c (fin false m e ⊕ fin false n d) ≡ true → within c (fin false n d) ≡ true
       written m e n d F h =
-          below_rounded c (fin false n d) (m * up e * down d + n * up d * down e) (down e * down d) C refl F (mul-pos (down_pos e) (down_pos d)) (right_fraction (m * up e) (down e) (n * up d) (down d))
+          below_rounded c (fin false n d) (m * up e * down d + n * up d * down e) (down e * down d) C refl F (mul-pos (down_pos e) (down_pos d)) (omega arith)
           (subst (λ (z : Float). within c z ≡ true) (add_is m e n d) h)
 
   -- a sum of two bounds, itself within one, may stand as a bound
@@ -133,8 +126,7 @@ small_root c b (fin s m e) C B f h = elim (cases_Bool (within b (fin s m e))) [ 
         let x = fin s m e in
         let y = fin false n d in
         let a = above n d s m e u in
-        let cross : n * up d * (n * up d) * (down e * down e) ≤ m * up e * (m * up e) * (down d * down d) =
-        le_trans (le_of_eq (mul-mul-mul_comm (n * up d) (n * up d) (down e) (down e))) (le_trans (mul-le-mul a a) (le_of_eq (mul-mul-mul_comm (m * up e) (down d) (m * up e) (down d)))) in
+        let cross : n * up d * (n * up d) * (down e * down e) ≤ m * up e * (m * up e) * (down d * down d) = omega (arith, mul-le-mul a a) in
         let larger : within (x ⊗ x) (y ⊗ y) ≡ true = same s (within_round binary64 false (n * up d * (n * up d)) (down d * down d) (m * up e * (m * up e)) (down e * down e) (mul-pos (down_pos d) (down_pos d)) (mul-pos (down_pos e) (down_pos e)) cross) in
         no (sym f ∙ within_more (x ⊗ x) c (y ⊗ y) (square_bound c x C h) C h larger)
       where

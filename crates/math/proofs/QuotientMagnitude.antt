@@ -3,7 +3,7 @@ use Rattle.std.proofs.Common.{◌≡◌, ℕ, zero, suc, ◌+◌, ◌*◌, ◌/�
 use lib.Ieee.{Float, nan, inf, fin, binary64, up, down, round, div, le, lt}
 use lib.Ieee.Fits.{down_pos}
 use lib.Ieee.Nearest.{div_mono}
-use lib.Ieee.Positive.{num, den}
+use lib.Ieee.Positive.{num, den, first_pos}
 use Rattle.std.specs.Float.{float_with_sign}
 use lib.Ieee.{root_twice}
 use Rattle.std.proofs.lemmas.Bool.{cases_lt, cases_Bool, cond-true, cond-false, ne_eqb, eqb-false}
@@ -21,14 +21,10 @@ large_of_within l nan L P Y h = no Y
 large_of_within l (inf s) L P Y h = no Y
 large_of_within l (fin s n d) L P Y h = bound_is (λ l'. 0 < num l' → within (fin false n d) l' ≡ true → Large (fin s n d) (num l') (den l')) written l L P h
   where
-    some : (n u q : ℕ) → 0 < n * u * q → 0 < n
-    some zero u q p = absurd (lt_irrefl 0 (subst (λ (x : ℕ). 0 < x) (ap (λ (x : ℕ). x * q) (zero-mul u) ∙ zero-mul q) p))
-    some (suc n) u q p = omega arith
-
     written : (m : ℕ) (e : ℤ) → 0 < m * up e → within (fin false n d) (fin false m e) ≡ true → Large (fin s n d) (m * up e) (down e)
     written m e p w =
         let k = small_of_within (fin false n d) (fin false m e) refl w in
-        (some n (up d) (down e) (lt_of_lt_of_le (mul-pos p (down_pos d)) k), k)
+        (first_pos n (up d) (first_pos (n * up d) (down e) (lt_of_lt_of_le (mul-pos p (down_pos d)) k)), k)
 
 pub div_within : (b l x y : Float) → bound b ≡ true → bound l ≡ true → 0 < num l → bound (size y) ≡ true → within b x ≡ true → within (size y) l ≡ true → within (b ⊘ l) (x ⊘ y) ≡ true
 unfolding div

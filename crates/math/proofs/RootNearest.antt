@@ -1,5 +1,5 @@
 -- A root by the rule is the nearest f64. In steps of 2^k the root lies between q and q + 1, and no f64 lies strictly between those two, since q has 53 digits.
-use Rattle.std.proofs.Common.{◌≡◌, ℕ, zero, suc, ◌+◌, ◌-◌, ◌*◌, ◌^◌, ◌<◌, ◌≤◌, true, false, T, eqb, leb, ℤ, pos, negsuc, sym, refl, ap, ◌∙◌, subst, inl, inr, true≢false, le_trans, le_of_eq, lt_of_lt_of_le, lt_of_le_of_lt, le_of_lt, lt_irrefl, mul-le-mul_right, mul_assoc, mul_comm, add-mul, mul-le-mul, lt_of_mul-lt-mul_right, mul-le-mul_left, mul-lt-mul_of_pos_right, mul-pos, mul-one, sub-add_cancel, mul_right_comm, mul_left_comm, arith, eqb→eq, pow-suc, pow_pos, pow_mono, pow-add, shl_lt}
+use Rattle.std.proofs.Common.{◌≡◌, ℕ, zero, suc, ◌+◌, ◌-◌, ◌*◌, ◌^◌, ◌<◌, ◌≤◌, true, false, T, eqb, leb, ℤ, pos, negsuc, sym, refl, ap, ◌∙◌, subst, inl, inr, true≢false, le_trans, le_of_eq, lt_of_lt_of_le, lt_of_le_of_lt, le_of_lt, lt_irrefl, mul-le-mul_right, mul_assoc, mul-le-mul, lt_of_mul-lt-mul_right, mul-le-mul_left, mul-lt-mul_of_pos_right, mul-pos, mul-one, sub-add_cancel, mul_right_comm, arith, eqb→eq, pow-suc, pow_pos, pow_mono, pow-add, shl_lt}
 use lib.Ieee.{Float, nan, inf, fin, binary64, up, down, fits}
 use lib.Ieee.Fits.{down_pos}
 use lib.Ieee.Positive.{num, den, den_pos}
@@ -125,21 +125,13 @@ module _ (m q s y : ℕ) (S : 0 < s) (square : q * q ≤ m) (next : m < (q + 1) 
 -- ---- from steps back to fractions: v is p / w, r is a / b, and x is e / f
 module _ (p w a b e f m c I J : ℕ) (W : 0 < w) (B : 0 < b) (value : p * (J * J) ≡ m * (I * I) * w) (root : a * J ≡ c * I * b) where
   middle_is : (a * f + e * b) * J ≡ (c * (I * f) + e * J) * b
-  middle_is =
-      add-mul (a * f) (e * b) J
-      ∙ ap (λ (x : ℕ). x + e * b * J) (mul_right_comm a f J ∙ ap (λ (x : ℕ). x * f) root ∙ simp (mul_assoc, mul_comm, mul_left_comm))
-      ∙ ap (λ (x : ℕ). c * (I * f) * b + x) (mul_right_comm e b J)
-      ∙ sym (add-mul (c * (I * f)) (e * J) b)
+  middle_is = omega (arith, ap (λ (x : ℕ). x * f) root)
 
   middle_square : (a * f + e * b) * (a * f + e * b) * w * (J * J) ≡ (c * (I * f) + e * J) * (c * (I * f) + e * J) * (b * b * w)
-  middle_square =
-      simp (mul_assoc, mul_comm, mul_left_comm)
-      (simp (mul_assoc, mul_comm, mul_left_comm) at (ap (λ (x : ℕ). x * x * w) middle_is))
+  middle_square = omega (arith, ap (λ (x : ℕ). x * x * w) middle_is)
 
   target_is : 4 * p * (b * f * (b * f)) * (J * J) ≡ 4 * m * (I * f * (I * f)) * (b * b * w)
-  target_is =
-      simp (mul_assoc, mul_comm, mul_left_comm)
-      (simp (mul_assoc, mul_comm, mul_left_comm) at (ap (λ (x : ℕ). 4 * x * (b * f * (b * f))) value))
+  target_is = omega (arith, ap (λ (x : ℕ). 4 * x * (b * f * (b * f))) value)
 
   bw : 0 < b * b * w
   bw = mul-pos (mul-pos B B) W
@@ -151,7 +143,7 @@ module _ (p w a b e f m c I J : ℕ) (W : 0 < w) (B : 0 < b) (value : p * (J * J
   short h = lt_of_mul-lt-mul_right (J * J) (lt_of_le_of_lt (le_of_eq middle_square) (lt_of_lt_of_le (mul-lt-mul_of_pos_right h bw) (le_of_eq (sym target_is))))
 
   left_is : c * (I * f) * b ≡ a * f * J
-  left_is = simp (mul_assoc, mul_comm, mul_left_comm) (simp (mul_assoc, mul_comm, mul_left_comm) at (ap (λ (x : ℕ). x * f) (sym root)))
+  left_is = omega (arith, ap (λ (x : ℕ). x * f) root)
 
   order_up : 0 < J → a * f < e * b → c * (I * f) < e * J
   order_up P h = lt_of_mul-lt-mul_right b (lt_of_le_of_lt (le_of_eq left_is) (lt_of_lt_of_le (mul-lt-mul_of_pos_right h P) (le_of_eq (mul_right_comm e b J))))

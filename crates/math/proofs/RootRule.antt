@@ -10,11 +10,12 @@ use lib.Ieee.Digits.{size-lt, size-le, size_reaches, back}
 use lib.Ieee.Exact.{HasValue, units_val}
 use lib.Ieee.Fits.{round_is}
 use lib.Ieee.Nearest.{closest, closest_same}
+use lib.Ieee.Root.{Root}
 use lib.Ieee.{root_twice}
 use Rattle.std.proofs.lemmas.Bool.{cases_lt, le-leb, lt-leb, cond-true, cond-false, ne_eqb}
 use Rattle.math.specs.Roots.{chosen, Rooted}
 use Rattle.math.proofs.OwnValue.{held, exponent_le}
-use Rattle.math.proofs.WholeRoot.{WholeRoot, whole_root, whole_root_is, root_reaches, lt_of_squares}
+use Rattle.math.proofs.WholeRoot.{whole_root, whole_root_is, root_reaches, lt_of_squares}
 
 -- ---- what `compare` answers
 
@@ -80,7 +81,7 @@ module _ (m q h : ℕ) (H : 0 < h) (square : q * q ≤ m) (next : m < (q + 1) * 
   abbrev R₀ : ℕ
   R₀ = root_twice N₀
 
-  facts : WholeRoot r₀ N₀
+  facts : Root r₀ N₀
   facts = whole_root_is N₀
 
   reaches : q * T₀ ≤ r₀
@@ -297,9 +298,6 @@ scaled n (negsuc k) F =
     record { z = 4542 - suc k; units_are = ap (λ (x : ℕ). x / 2 ^ suc k) e ∙ mul-div_cancel (suc n * 2 ^ (4542 - suc k)) (pow_pos (suc k)); exact = e; deep = omega arith; high = omega arith }
 
 -- ---- the rule
-
-halves : (l : ℕ) → (l - 105) / 2 * 2 ≤ l - 105
-halves l = omega arith
 
 module _ (n : ℕ) (e : ℤ) (F : T (fits binary64 (fin false (suc n) e))) where
   abbrev N : ℕ

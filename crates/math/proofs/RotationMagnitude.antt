@@ -1,5 +1,5 @@
 -- How far an accepted rotation or pose takes a vector: rotated, a coordinate grows at most 24.5 times.
-use Rattle.std.proofs.Common.{◌≡◌, true, false, refl, subst}
+use Rattle.std.proofs.Common.{◌≡◌, true, false, refl, subst, rules}
 use lib.Ieee.{Float, nan, inf, fin, binary64, of_bits, round, neg, mul, le}
 use lib.Ieee.Positive.{num, den}
 use Rattle.std.specs.Float.{float_with_sign}
@@ -29,28 +29,21 @@ module _ (v : Float) (ok : rotates v ≡ true) (q : Rotation) (a : Accepted q) w
   pub rotated_within : (u : Vector) → vector_within v u ≡ true → vector_within (rotated_bound v) (rotated q u) ≡ true
   unfolding rotated
   rotated_within u h =
-      let p11 = and_parts _ _ ok in
-      let p10 = and_parts _ _ p11.0 in
-      let p9 = and_parts _ _ p10.0 in
-      let p8 = and_parts _ _ p9.0 in
-      let p7 = and_parts _ _ p8.0 in
-      let p6 = and_parts _ _ p7.0 in
-      let p5 = and_parts _ _ p6.0 in
-      let p4 = and_parts _ _ p5.0 in
-      let p3 = and_parts _ _ p4.0 in
-      let p2 = and_parts _ _ p3.0 in
-      let p1 = and_parts _ _ p2.0 in
-      let V = p1.0 in
+      let V : bound v ≡ true = search rules in
+      let along_is : bound (along v) ≡ true = search rules in
+      let axial_is : bound (axial v) ≡ true = search rules in
+      let turned_is : bound (turned v) ≡ true = search rules in
+      let both_are : bound (along v ⊕ axial v) ≡ true = search rules in
       let b = q.b in
       let w = q.w in
       let straight = scaled_within v two V two_bound u (w ⊗ w ⊖ dotted b b) h (difference_within two (w ⊗ w) (dotted b b) two_bound two_own a.ww_bound a.bb_bound a.ww a.bb) in
-      let dot = dotted_within v three_halves V three_halves_bound p2.1 p4.1 u b h a.b in
-      let twice = mul_within (product v) two (dotted u b) two p5.1 two_bound dot two_itself in
-      let onto = scaled_within three_halves (product v ⊗ two) three_halves_bound p6.1 b (dotted u b ⊗ two) a.b twice in
-      let cross = crossed_within three_halves v three_halves_bound V p3.1 p2.1 b u a.b h in
+      let dot = dotted_within v three_halves V three_halves_bound (search rules) (search rules) u b h a.b in
+      let twice = mul_within (product v) two (dotted u b) two (search rules) two_bound dot two_itself in
+      let onto = scaled_within three_halves (product v ⊗ two) three_halves_bound (search rules) b (dotted u b ⊗ two) a.b twice in
+      let cross = crossed_within three_halves v three_halves_bound V (search rules) (search rules) b u a.b h in
       let weight = mul_within three_halves two w two three_halves_bound two_bound a.w two_itself in
-      let across = scaled_within (three_halves ⊗ v ⊕ v ⊗ three_halves) (three_halves ⊗ two) p8.1 p9.1 (crossed b u) (w ⊗ two) cross weight in
-      added_within (along v ⊕ axial v) (turned v) p11.1 p10.1 _ _ (added_within (along v) (axial v) p1.1 p7.1 _ _ straight onto) across
+      let across = scaled_within (three_halves ⊗ v ⊕ v ⊗ three_halves) (three_halves ⊗ two) (search rules) (search rules) (crossed b u) (w ⊗ two) cross weight in
+      added_within (along v ⊕ axial v) (turned v) both_are turned_is _ _ (added_within (along v) (axial v) along_is axial_is _ _ straight onto) across
 
 -- ---- poses
 

@@ -1,36 +1,16 @@
 -- The whole part of a square root, and how it bounds the root that `sqrt` rounds.
-use Rattle.std.proofs.Common.{◌≡◌, ℕ, ℤ, zero, suc, ◌+◌, ◌*◌, ◌/◌, ◌^◌, ◌<◌, ◌≤◌, Bool, true, false, cond, leb, pos, refl, sym, subst, lt_of_lt_of_le, lt_of_le_of_lt, mul-le-mul, pow-suc, lt_of_not-le, arith}
+use Rattle.std.proofs.Common.{◌≡◌, ℕ, ℤ, zero, suc, ◌+◌, ◌*◌, ◌/◌, ◌^◌, ◌<◌, ◌≤◌, Bool, false, pos, refl, sym, subst, lt_of_le_of_lt, mul-le-mul, lt_of_not-le, arith}
 use lib.Ieee.{size}
-use lib.Ieee.Digits.{size-lt}
+use lib.Ieee.Root.{Root, whole_part}
 use lib.Ieee.{Float, binary64, fin, up, down, round, sqrt, root_below, root_twice}
 use Rattle.math.specs.Floats.{root}
-use Rattle.std.proofs.lemmas.Bool.{leb-true, leb-false}
-
--- s is the whole part of the root of n
-abbrev pub WholeRoot : ℕ → ℕ → Type 0
-WholeRoot s n = (s * s ≤ n) × (n < (s + 1) * (s + 1))
-
-next_digit : (r n : ℕ) (b : Bool) → leb ((2 * r + 1) * (2 * r + 1)) n ≡ b → WholeRoot r (n / 4) → WholeRoot (cond b (2 * r + 1) (2 * r)) n
-next_digit r n true e h = (leb-true _ _ e, omega (arith, h.1))
-next_digit r n false e h = (omega (arith, h.0), leb-false _ _ e)
-
-below_is : (k n : ℕ) → n < 4 ^ k → WholeRoot (root_below k n) n
-unfolding root_below
-below_is zero n h = omega arith
-below_is (suc k) n h =
-    let step : 4 ^ suc k ≡ 4 ^ k * 4 = pow-suc 4 k in
-    next_digit (root_below k (n / 4)) n _ refl (below_is k (n / 4) (omega arith))
-
-pow_grows : (k : ℕ) → 2 ^ k ≤ 4 ^ k
-pow_grows zero = omega arith
-pow_grows (suc k) = let a : 2 ^ suc k ≡ 2 ^ k * 2 = pow-suc 2 k in let b : 4 ^ suc k ≡ 4 ^ k * 4 = pow-suc 4 k in omega (arith, pow_grows k)
 
 unfoldable pub whole_root : ℕ → ℕ
 whole_root n = root_below (size n) n
 
-pub whole_root_is : (n : ℕ) → WholeRoot (whole_root n) n
+pub whole_root_is : (n : ℕ) → Root (whole_root n) n
 unfolding whole_root
-whole_root_is n = below_is (size n) n (lt_of_lt_of_le (size-lt n) (pow_grows (size n)))
+whole_root_is = whole_part
 
 pub lt_of_squares : (a b : ℕ) → a * a < b * b → a < b
 lt_of_squares a b h = lt_of_not-le (λ (g : b ≤ a). omega (arith, mul-le-mul g g))

@@ -14,6 +14,7 @@ pub const COS_FRAC_PI_8: f64 = 0.92387953251;
 const MAX_ULPS: u64 = 4;
 
 // At most 2^-52 in size.
+#[tactic(auto, unfolding(crate::specs::Magnitude::within))]
 pub fn is_near_zero(d: f64) -> bool
     ensures { result ≡ near_zero d }
 {
@@ -21,14 +22,9 @@ pub fn is_near_zero(d: f64) -> bool
 }
 
 // The bits of both are at most 4 apart; a NaN is close to nothing.
+#[tactic(auto, unfolding(crate::specs::Nearly::bits_close))]
 pub fn are_bits_close(a: f64, b: f64) -> bool
     ensures { result ≡ bits_close a b }
 {
-    if a.is_nan() {
-        return false;
-    }
-    if b.is_nan() {
-        return false;
-    }
-    a.to_bits().abs_diff(b.to_bits()) <= MAX_ULPS
+    !a.is_nan() && !b.is_nan() && a.to_bits().abs_diff(b.to_bits()) <= MAX_ULPS
 }

@@ -56,7 +56,7 @@ impl<T: Given, const N: usize> Given for [T; N] {
     }
 }
 
-// What has a square of its length.
+// A vector, or a rotation as a quaternion, by the square of its length.
 pub trait SquaredLength: Copy {
     ghost squared: { Self → Float };
 
@@ -70,6 +70,7 @@ pub trait SquaredLength: Copy {
     }
 }
 
+#[tactic(auto, unfolding(crate::specs::Limits::near_one))]
 fn is_near_one(square: f64) -> bool
     ensures { result ≡ near_one square }
 {

@@ -13,6 +13,7 @@ pub struct Rotation {
     pub w: f64,
 }
 
+#[tactic(auto, unfolding(crate::specs::Poses::inverted, crate::specs::Poses::rotated))]
 impl Rotation {
     pub fn new(b: Vector, w: f64) -> Rotation
         ensures { result ≡ record { b = b; w = w } }
@@ -32,8 +33,7 @@ impl Rotation {
     pub fn rotate(self, v: Vector) -> Vector
         ensures { result ≡ rotated self v }
     {
-        let b = self.b;
-        let w = self.w;
+        let Rotation { b, w } = self;
         let along = v.scale(w * w - b.length_squared());
         let axial = b.scale(v.dot(b) * 2.0);
         let turned = b.cross(v).scale(w * 2.0);
@@ -46,8 +46,8 @@ impl SquaredLength for Rotation {
     ghost squared = { rotation_squared };
 
     fn length_squared(self) -> f64 {
-        let b = self.b;
-        b.x * b.x + b.y * b.y + b.z * b.z + self.w * self.w
+        let Rotation { b, w } = self;
+        b.x * b.x + b.y * b.y + b.z * b.z + w * w
     }
 }
 
@@ -57,6 +57,7 @@ pub struct Pose {
     pub translation: Vector,
 }
 
+#[tactic(auto, unfolding(crate::specs::Poses::transformed, crate::specs::Poses::untransformed))]
 impl Pose {
     pub fn new(rotation: Rotation, translation: Vector) -> Pose
         ensures { result ≡ record { rotation = rotation; translation = translation } }

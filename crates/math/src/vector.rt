@@ -12,6 +12,8 @@ pub struct Vector {
     pub z: f64,
 }
 
+// The coordinates are named, and each operation takes them in the order of the Rust crate that is ported: no loop over an array, no code shared with the plane.
+#[tactic(auto, unfolding(crate::specs::Vectors::added, crate::specs::Vectors::subtracted, crate::specs::Vectors::negated, crate::specs::Vectors::scaled, crate::specs::Vectors::dotted, crate::specs::Vectors::crossed, crate::specs::Vectors::sizes))]
 impl Vector {
     pub const ZERO: Vector = Vector {
         x: 0.0,
@@ -98,17 +100,18 @@ impl Vector {
     }
 
     // The first place of the largest coordinate.
+    #[tactic(auto, using(crate::proofs::Largest::at_x, crate::proofs::Largest::at_y, crate::proofs::Largest::at_z_by_y, crate::proofs::Largest::at_z_by_x), unfolding(crate::specs::Vectors::largest_place))]
     pub fn max_position(self) -> usize
         ensures value { result ≡ largest_place self }
         ensures first { vector_number self ≡ true → FirstLargest self result }
     {
-        let x = self.x;
-        let y = self.y;
-        let z = self.z;
+        let Vector { x, y, z } = self;
         if y > x {
             if z > y { 2 } else { 1 }
+        } else if z > x {
+            2
         } else {
-            if z > x { 2 } else { 0 }
+            0
         }
     }
 }

@@ -13,6 +13,8 @@ pub struct Vector2 {
     pub y: f64,
 }
 
+// Both coordinates by name, as in space.
+#[tactic(auto, unfolding(crate::specs::Vectors2::subtracted, crate::specs::Vectors2::scaled, crate::specs::Vectors2::dotted, crate::specs::Vectors2::perp_dotted, crate::specs::Vectors2::reciprocal, crate::specs::Vectors2::usable, crate::specs::Vectors2::normalized))]
 impl Vector2 {
     pub fn new(x: f64, y: f64) -> Vector2
         ensures { result ≡ record { x = x; y = y } }

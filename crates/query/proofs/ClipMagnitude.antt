@@ -9,8 +9,9 @@ use Rattle.math.specs.Magnitude.{bound, within, vector_within}
 use Rattle.math.specs.Refusals.{done, refused}
 use Rattle.math.specs.Vectors.{added, subtracted, scaled, dotted}
 use Rattle.math.specs.declared.vector.Vector.{Vector}
-use Rattle.math.proofs.Fraction.{fraction_within, squeezed, lt_not_eq, lt_asym}
+use Rattle.math.proofs.Fraction.{fraction_within, squeezed}
 use Rattle.math.proofs.Magnitude.{no, within_more}
+use Rattle.math.proofs.Order.{lt_not_eq, lt_asym}
 use Rattle.math.proofs.VectorMagnitude.{vector_more, added_within, subtracted_within, scaled_within, dotted_within}
 use Rattle.shape.specs.Nearness.{vertex_limit}
 use Rattle.query.specs.Clips.{Segment, Clip, clip_limit, clip_near, clipped, product, ordered, undefined, apart, between, low_end, high_end}

@@ -2,7 +2,7 @@
 use Rattle.std.proofs.Common.{sym, subst}
 use lib.Ieee.{Float}
 use Rattle.math.specs.Roots.{RootIs}
-use Rattle.math.proofs.Magnitude.{to_T}
+use Rattle.std.proofs.lemmas.Float.{T_from_true}
 use Rattle.math.proofs.RootNearest.{root_is}
 use Rattle.math.proofs.root.sqrt.Goals as goal
 
@@ -10,4 +10,4 @@ pub returns : goal.returns
 returns c =
     let v = c.args.v in
     let same = c.sqrt.ensures.value in
-    record { value = same; nearest = subst (λ (r : Float). RootIs v r) (sym same) (root_is v (to_T _ c.well_formed.0.1)) }
+    record { value = same; nearest = subst (λ (r : Float). RootIs v r) (sym same) (root_is v (T_from_true _ c.well_formed.0.1)) }

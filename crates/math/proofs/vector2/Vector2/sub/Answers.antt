@@ -1,8 +1,0 @@
--- The result is `subtracted` as it stands.
-use Rattle.std.proofs.Common.{refl}
-use Rattle.math.specs.Vectors2.{subtracted}
-use Rattle.math.proofs.vector2.Vector2.sub.Goals as goal
-
-pub returns : goal.returns
-unfolding subtracted
-returns c = refl
