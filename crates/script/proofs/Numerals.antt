@@ -1,16 +1,19 @@
 -- What the tests of digits say: a numeral as the library has it, with no sign before it; and a decimal that has no `x` in front.
-use Rattle.std.proofs.Common.{◌≡◌, ℕ, ◌-◌, ◌^◌, ◌<◌, ◌≤◌, min, Bool, true, false, cond, ◌&&◌, eqb, leb, ltb, List, [], ◌∷◌, length, drop, pos, is_some, IfSome, Some, None, Ok, Err, codes, Option, Result, sym, refl, ap, ◌∙◌, subst, arith, lit<, lit≤, ltb-true, le-leb, ne_eqb, eqb-true}
+use Rattle.std.proofs.Common.{◌≡◌, ℕ, zero, suc, ◌+◌, ◌-◌, ◌*◌, ◌^◌, ◌<◌, ◌≤◌, min, Bool, true, false, cond, ◌&&◌, eqb, leb, ltb, List, [], ◌∷◌, ◌++◌, length, drop, pos, is_some, IfSome, Some, None, Ok, Err, codes, Option, Result, unwrap_or, append-nil, mul-one, sym, refl, ap, ◌∙◌, subst, arith, lit<, lit≤, ltb-true, le-leb, ne_eqb, eqb-true}
 use native.Mathlib.Nat.{pow-le-pow_right, min-eq_right, min-eq_left}
-use lib.Ieee.{Float, binary64, of_int}
+use lib.Ieee.{Float, Format, binary64, inf, prec, low, emax, neg, odd, units, of_int, round}
+use lib.Ieee.Fits.{round_is}
 use borrow.Author.Tests.{clash}
-use Rattle.std.specs.Str.Parse.{AllDigits, IsNumeral, without_leading_plus, without_leading_sign, starts_with_minus, digits_value, ParsesUnsigned}
-use Rattle.std.specs.Float.Parse.{is_float_text, ParsesFloat}
+use Rattle.std.specs.Str.Parse.{AllDigits, IsNumeral, without_leading_plus, without_leading_sign, digits_value, ParsesUnsigned}
+use Rattle.std.specs.Float.Parse.{is_float_text, parse_float, IsParseFloatResult}
+use Rattle.std.specs.Float.Numeral.{Parts, IsWellFormed}
+use Rattle.std.proofs.lemmas.Float.Parse.{is_some-parse_float, parse_float-text_of, parse_float-IsNumeral}
 use Rattle.std.specs.Result.{result_ok, result_unwrap_or}
 use Rattle.std.proofs.lemmas.Bool.{and_parts}
 use Rattle.std.proofs.lemmas.Int.Digits.{digits_value-lt}
 use Rattle.std.specs.Char.{digit_value}
 use Rattle.math.specs.Floats.{opposite}
-use Rattle.script.specs.Numerals.{all_digits, is_numeral_of, is_minus_numeral, place, hex_value, begins, bits_number, is_number, Whole, Writes}
+use Rattle.script.specs.Numerals.{all_digits, is_numeral_of, place, hex_value, begins, bits_number, is_number, Whole, Writes}
 
 pub digits_hold : (radix : ℕ) (bs : List ℕ) → all_digits radix bs ≡ true → AllDigits radix bs
 digits_hold radix [] e = tt
@@ -81,39 +84,71 @@ without_mark (b ∷ bs) h =
 pub is_decimal : (bs : List ℕ) → ((rest : List ℕ) → bs ≡ 120 ∷ rest → ⊥) → is_float_text bs ≡ is_number bs
 is_decimal bs h = sym (ap (λ (t : Bool). cond t (is_some (bits_number (drop 1 bs))) (is_float_text bs)) (without_mark bs h))
 
+-- ---- a sign turned before rounding and after
+
+odd_turned : (d q k l : ℕ) → neg (odd d false q k l) ≡ odd d true q k l
+unfolding neg odd
+odd_turned d zero k l = refl
+odd_turned d (suc q) k l = refl
+
+units_turned : (f : Format) (q k : ℕ) → neg (units f false q k) ≡ units f true q k
+unfolding units neg
+units_turned f q k = by_size (ltb (q * 2 ^ k) (2 ^ (low f + suc (emax f))))
+  where
+    by_size : (b : Bool) → neg (cond b (odd (suc (prec f)) false q k (low f)) (inf false)) ≡ cond b (odd (suc (prec f)) true q k (low f)) (inf true)
+    by_size true = odd_turned (suc (prec f)) q k (low f)
+    by_size false = refl
+
+round_turned : (f : Format) (a c : ℕ) → neg (round f false a c) ≡ round f true a c
+round_turned f a c = ap neg (round_is f false a c) ∙ units_turned f _ _ ∙ sym (round_is f true a c)
+
+-- A minus before digits turns the sign of what they write.
+minus_float : (ds : List ℕ) → IsNumeral 10 ds → parse_float binary64 (45 ∷ ds) ≡ Some (opposite (of_int binary64 (pos (digits_value 10 ds))))
+unfolding of_int
+minus_float ds n =
+    let end : ds ++ [] ≡ ds = append-nil ds in
+    let p : Parts = record { whole = ds; point = false; fraction = []; exponent_negative = false; exponent = []; len = length ds } in
+    let fit : IsWellFormed p = record { whole_digits = n.1; fraction_digits = tt; exponent_digits = tt; no_point = λ _. refl; no_exponent = λ _. refl; len_is = sym (ap length end) } in
+    let units : digits_value 10 (ds ++ []) * 1 ≡ digits_value 10 ds = mul-one (digits_value 10 (ds ++ [])) ∙ ap (digits_value 10) end in
+    ap (λ (t : List ℕ). parse_float binary64 (45 ∷ t)) (sym end)
+    ∙ parse_float-text_of binary64 true p fit n.0
+    ∙ ap Some (ap (λ (k : ℕ). round binary64 true k 1) units ∙ sym (round_turned binary64 (digits_value 10 ds) 1))
+
+same_float : {x y : Float} → Some x ≡ Some y → x ≡ y
+same_float {y = y} e = ap (λ (o : Option Float). unwrap_or o y) e
+
+-- What the library reads is the whole number, where the digits are one.
+pub whole_read : (bs : List ℕ) (x : Float) → parse_float binary64 bs ≡ Some x → Whole x bs
+whole_read [] x e = λ digits small. absurd (clash digits)
+whole_read (c ∷ cs) x e = at (eqb c 45) refl
+  where
+    at : (b : Bool) → eqb c 45 ≡ b → Whole x (c ∷ cs)
+    at true q digits small =
+        let p = ap (λ (b : Bool). cond b cs (without_leading_plus (c ∷ cs))) q in
+        let n = numeral_holds 10 cs (ap (is_numeral_of 10) (sym p) ∙ digits) in
+        let read = ap (λ (k : ℕ). parse_float binary64 (k ∷ cs)) (sym (eqb-true c 45 q)) ∙ e in
+        let nearest = of_int binary64 (pos (digits_value 10 (without_leading_sign (c ∷ cs)))) in
+        same_float (sym read ∙ minus_float cs n)
+        ∙ ap (λ (ds : List ℕ). opposite (of_int binary64 (pos (digits_value 10 ds)))) (sym p)
+        ∙ ap (λ (b : Bool). cond b (opposite nearest) nearest) (sym q)
+    at false q digits small =
+        let p = ap (λ (b : Bool). cond b cs (without_leading_plus (c ∷ cs))) q in
+        let n = numeral_holds 10 (without_leading_plus (c ∷ cs)) (ap (is_numeral_of 10) (sym p) ∙ digits) in
+        let nearest = of_int binary64 (pos (digits_value 10 (without_leading_sign (c ∷ cs)))) in
+        same_float (sym e ∙ parse_float-IsNumeral binary64 (c ∷ cs) n)
+        ∙ ap (λ (ds : List ℕ). of_int binary64 (pos (digits_value 10 ds))) (sym p)
+        ∙ ap (λ (b : Bool). cond b (opposite nearest) nearest) (sym q)
+
 -- a text that does not begin with `x` is read as a decimal
-pub decimal_read : (bs : List ℕ) (o : Option Float) → ((rest : List ℕ) → bs ≡ 120 ∷ rest → ⊥) → is_some o ≡ is_float_text bs → IfSome o (λ x. Whole x bs) → IfSome o (λ x. Writes x bs)
-decimal_read bs None h test some = tt
-decimal_read bs (Some x) h test some = record {
-  number = sym (is_decimal bs h) ∙ sym test;
+pub decimal_read : (bs : List ℕ) (o : Option Float) → ((rest : List ℕ) → bs ≡ 120 ∷ rest → ⊥) → o ≡ parse_float binary64 bs → IfSome o (λ x. Writes x bs)
+decimal_read bs None h read = tt
+decimal_read bs (Some x) h read = record {
+  number = sym (is_decimal bs h) ∙ sym (is_some-parse_float binary64 bs) ∙ ap is_some (sym read);
   bits = λ marked. absurd (clash (sym (without_mark bs h) ∙ marked));
-  whole = some;
+  whole = whole_read bs x (sym read);
 }
 
--- With no minus before digits alone, the library says which whole number it reads.
-unsigned_from : {E : Type 0} (bs : List ℕ) (x : Float) (b : Bool) → starts_with_minus bs ≡ b → is_minus_numeral bs ≡ false → ParsesFloat {E = E} binary64 64 bs (Ok x) → Whole x bs
-unsigned_from bs x true e none reads digits small =
-    let p = ap (λ (b : Bool). cond b (drop 1 bs) (without_leading_plus bs)) e in
-    absurd (clash (sym none ∙ ap (λ (b : Bool). b && is_numeral_of 10 (drop 1 bs)) e ∙ ap (is_numeral_of 10) (sym p) ∙ digits))
-unsigned_from bs x false e none reads digits small =
-    let p = ap (λ (b : Bool). cond b (drop 1 bs) (without_leading_plus bs)) e in
-    let n = numeral_holds 10 (without_leading_plus bs) (ap (is_numeral_of 10) (sym p) ∙ digits) in
-    let l = subst (λ (ds : List ℕ). digits_value 10 ds < 2 ^ 64) p small in
-    let h = reads.1 n l in
-    let w : x ≡ of_int binary64 (pos (digits_value 10 (without_leading_plus bs))) = cc in
-    let nearest = of_int binary64 (pos (digits_value 10 (without_leading_sign bs))) in
-    w ∙ ap (λ (ds : List ℕ). of_int binary64 (pos (digits_value 10 ds))) (sym p) ∙ ap (λ (b : Bool). cond b (opposite nearest) nearest) (sym e)
-
-pub unsigned_read : {E : Type 0} (bs : List ℕ) (r : Result Float E) → is_minus_numeral bs ≡ false → ParsesFloat binary64 64 bs r → IfSome (result_ok r) (λ x. Whole x bs)
-unsigned_read bs (Err e) none reads = tt
-unsigned_read bs (Ok x) none reads = unsigned_from bs x (starts_with_minus bs) refl none reads
-
-pub minus_read : {E : Type 0} (ds : List ℕ) (r : Result Float E) → is_numeral_of 10 ds ≡ true → ParsesFloat binary64 64 ds r → IfSome (result_ok r) (λ x. Whole (opposite x) (45 ∷ ds))
-minus_read ds (Err x) e reads = tt
-minus_read ds (Ok x) e reads = λ digits small.
-    let p = no_plus 10 ds (lit≤ tt) e in
-    let n = subst (IsNumeral 10) (sym p) (numeral_holds 10 ds e) in
-    let l = subst (λ (t : List ℕ). digits_value 10 t < 2 ^ 64) (sym p) small in
-    let h = reads.1 n l in
-    let w : x ≡ of_int binary64 (pos (digits_value 10 (without_leading_plus ds))) = cc in
-    ap opposite (w ∙ ap (λ (t : List ℕ). of_int binary64 (pos (digits_value 10 t))) p)
+-- what the library answers, as the float of the text
+pub float_read : {E : Type 0} (bs : List ℕ) (r : Result Float E) → IsParseFloatResult binary64 bs r → result_ok r ≡ parse_float binary64 bs
+float_read bs (Ok x) reads = sym reads
+float_read bs (Err e) reads = sym reads

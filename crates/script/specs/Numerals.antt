@@ -24,10 +24,6 @@ place bs = cond (is_numeral_of 10 bs) (Some (min (digits_value 10 bs) (2 ^ 64 - 
 abbrev pub hex_value : ℕ → List ℕ → Option ℕ
 hex_value most bs = cond (is_numeral_of 16 bs && nat_le (length bs) most) (Some (digits_value 16 bs)) None
 
--- a minus, and then digits alone
-abbrev pub is_minus_numeral : List ℕ → Bool
-is_minus_numeral bs = starts_with_minus bs && is_numeral_of 10 (drop 1 bs)
-
 -- these bytes stand first
 abbrev pub begins : List ℕ → List ℕ → Bool
 begins [] bs = true

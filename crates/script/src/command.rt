@@ -13,7 +13,7 @@ pub enum Which {
 }
 
 // A shape's kind and sizes as given.
-#[derive(Clone, Copy)]
+#[derive(Clone, Copy, Debug, PartialEq)]
 pub enum Form {
     // Half height, then radius.
     Cylinder(f64, f64),
@@ -21,7 +21,7 @@ pub enum Form {
     Cuboid(Vector),
 }
 
-#[derive(Clone, Copy)]
+#[derive(Clone, Copy, Debug, PartialEq)]
 pub enum Command {
     // A line with no word, or whose first word begins with `#`.
     Remark,

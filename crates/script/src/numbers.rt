@@ -1,40 +1,23 @@
 // The three kinds of numbers that a script is written with.
-ghost use Rattle.std.specs.Prelude.{◌≡◌, ◌≤◌, true, false, ◌∷◌, drop, is_some, IfSome, codes, MatchOption};
-ghost use Rattle.std.specs.Float.Parse.{is_float_text};
-ghost use Rattle.script.specs.Numerals.{all_digits, is_numeral_of, is_minus_numeral, place, hex_value, begins, narrowed, word, bits_number, is_number, Whole, Writes};
+ghost use Rattle.std.specs.Prelude.{◌≡◌, ◌≤◌, true, false, drop, is_some, IfSome, codes};
+ghost use Rattle.std.specs.Float.{binary64};
+ghost use Rattle.std.specs.Float.Parse.{is_float_text, parse_float};
+ghost use Rattle.script.specs.Numerals.{is_numeral_of, place, hex_value, begins, word, bits_number, is_number, Writes};
 
 use std::num::f64_from_bits_with_nan;
 
 // What Rust reads as an f64, or `x` and the sixteen hexadecimal digits of its bits.
 pub fn read_number(text: &str) -> Option<f64>
     ensures bits { begins (codes "x") text.now ≡ true → result ≡ bits_number (drop 1 text.now) }
+    ensures decimal { begins (codes "x") text.now ≡ false → result ≡ parse_float binary64 text.now }
     ensures reads { begins (codes "x") text.now ≡ false → is_some result ≡ is_float_text text.now }
     ensures test { is_some result ≡ is_number text.now }
     ensures some { IfSome result (λ x. Writes x text.now) }
 {
     match text.strip_prefix("x") {
         Some(digits) => read_bits(digits),
-        None => read_decimal(text),
-    }
-}
-
-// Digits after a minus are read alone, so that what holds of digits alone holds of them, and the sign is turned.
-fn read_decimal(text: &str) -> Option<f64>
-    ensures test { is_some result ≡ is_float_text text.now }
-    ensures some { IfSome result (λ x. Whole x text.now) }
-{
-    match minus_digits(text) {
-        Some(digits) => Some(-digits.parse::<f64>().ok()?),
         None => text.parse::<f64>().ok(),
     }
-}
-
-// The digits after a minus, where nothing else stands there.
-fn minus_digits(text: &str) -> Option<&str>
-    ensures { MatchOption result (is_minus_numeral text.now ≡ false) (λ d. (text.now ≡ 45 ∷ d.now) × (is_numeral_of 10 d.now ≡ true)) }
-{
-    text.strip_prefix("-")
-        .filter(|digits| is_numeral(digits, 10))
 }
 
 fn read_bits(digits: &str) -> Option<f64>

@@ -55,7 +55,7 @@ impl<A: Readable, B: Readable> Readable for (A, B) {
     }
 }
 
-// Two and four, and no const parameter: `array::try_from_fn` does not say in which order it fills an array.
+// No const parameter: `array::try_from_fn` does not say that each call goes on where the one before it ended.
 impl<T: Readable> Readable for [T; 2] {
     ghost items = { flat_map T.items };
 
