@@ -56,7 +56,7 @@ impl<T: Given, const N: usize> Given for [T; N] {
     }
 }
 
-// What has a square of its length.
+// A vector, or a rotation as a quaternion, by the square of its length.
 pub trait SquaredLength: Copy {
     ghost squared: { Self → Float };
 
