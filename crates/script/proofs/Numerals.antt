@@ -1,29 +1,26 @@
 -- What the tests of digits say: a numeral as the library has it, with no sign before it; and a decimal that has no `x` in front.
-use Rattle.std.proofs.Common.{◌≡◌, ℕ, ◌-◌, ◌^◌, ◌<◌, ◌≤◌, min, Bool, true, false, cond, ◌&&◌, ◌||◌, eqb, ltb, List, [], ◌∷◌, length, drop, pos, is_some, IfSome, Some, None, Ok, Err, codes, Option, Result, sym, refl, ap, ◌∙◌, subst, arith, lit<, lit≤, ltb-true, ne_eqb, eqb-true}
+use Rattle.std.proofs.Common.{◌≡◌, ℕ, ◌-◌, ◌^◌, ◌<◌, ◌≤◌, min, Bool, true, false, cond, ◌&&◌, eqb, leb, ltb, List, [], ◌∷◌, length, drop, pos, is_some, IfSome, Some, None, Ok, Err, codes, Option, Result, sym, refl, ap, ◌∙◌, subst, arith, lit<, lit≤, ltb-true, le-leb, ne_eqb, eqb-true}
 use native.Mathlib.Nat.{pow-le-pow_right, min-eq_right, min-eq_left}
 use lib.Ieee.{Float, binary64, of_int}
 use borrow.Author.Tests.{clash}
 use Rattle.std.specs.Str.Parse.{AllDigits, IsNumeral, without_leading_plus, without_leading_sign, starts_with_minus, digits_value, ParsesUnsigned}
-use Rattle.std.specs.Float.Parse.{without_sign, completes_number, is_infinity_text, is_nan_text, is_float_text, ParsesFloat}
+use Rattle.std.specs.Float.Parse.{is_float_text, ParsesFloat}
 use Rattle.std.specs.Result.{result_ok, result_unwrap_or}
+use Rattle.std.proofs.lemmas.Bool.{and_parts}
 use Rattle.std.proofs.lemmas.Int.Digits.{digits_value-lt}
 use Rattle.std.specs.Char.{digit_value}
 use Rattle.math.specs.Floats.{opposite}
-use Rattle.script.specs.Numerals.{all_digits, is_numeral_of, is_minus_numeral, place, begins, bits_number, is_number, Whole, Writes}
-
-pub both_hold : (a b : Bool) → a && b ≡ true → (a ≡ true) × (b ≡ true)
-both_hold true b e = (refl, e)
-both_hold false b e = (e, absurd (clash e))
+use Rattle.script.specs.Numerals.{all_digits, is_numeral_of, is_minus_numeral, place, hex_value, begins, bits_number, is_number, Whole, Writes}
 
 pub digits_hold : (radix : ℕ) (bs : List ℕ) → all_digits radix bs ≡ true → AllDigits radix bs
 digits_hold radix [] e = tt
 digits_hold radix (c ∷ cs) e =
-    let h = both_hold (ltb (digit_value c) radix) (all_digits radix cs) e in
+    let h = and_parts (ltb (digit_value c) radix) (all_digits radix cs) e in
     (ltb-true (digit_value c) radix h.0, digits_hold radix cs h.1)
 
 pub numeral_holds : (radix : ℕ) (bs : List ℕ) → is_numeral_of radix bs ≡ true → IsNumeral radix bs
 numeral_holds radix bs e =
-    let h = both_hold (ltb 0 (length bs)) (all_digits radix bs) e in
+    let h = and_parts (ltb 0 (length bs)) (all_digits radix bs) e in
     (ltb-true 0 (length bs) h.0, digits_hold radix bs h.1)
 
 -- what does not begin with a plus stays
@@ -59,15 +56,20 @@ place_read bs r e reads = go r reads ∙ sym (ap (λ (b : Bool). cond b (Some (m
         ap Some (reads.1 ∙ ap (digits_value 10) p ∙ sym (min-eq_left small))
     go (Err x) reads = ap Some (sym (min-eq_right (omega (arith, too_large 10 64 bs (lit≤ tt) e reads))))
 
--- Sixteen hexadecimal digits are always read.
-pub hex_read : {E : Type 0} (most : ℕ) (bs : List ℕ) (r : Result ℕ E) → most ≤ 16 → length bs ≤ most → is_numeral_of 16 bs ≡ true → ParsesUnsigned 64 16 bs r → result_ok r ≡ Some (digits_value 16 bs)
-hex_read most bs (Ok v) few short e reads = ap Some (reads.1 ∙ ap (digits_value 16) (no_plus 16 bs (lit≤ tt) e))
-hex_read most bs (Err x) few short e reads =
+sixteen_read : {E : Type 0} (most : ℕ) (bs : List ℕ) (r : Result ℕ E) → most ≤ 16 → length bs ≤ most → is_numeral_of 16 bs ≡ true → ParsesUnsigned 64 16 bs r → result_ok r ≡ Some (digits_value 16 bs)
+sixteen_read most bs (Ok v) few short e reads = ap Some (reads.1 ∙ ap (digits_value 16) (no_plus 16 bs (lit≤ tt) e))
+sixteen_read most bs (Err x) few short e reads =
     let big = too_large 16 64 bs (lit≤ tt) e reads in
     let low = digits_value-lt 16 bs (numeral_holds 16 bs e).1 in
     let within : length bs ≤ 16 = omega arith in
     let power : 16 ^ length bs ≤ 16 ^ 16 = pow-le-pow_right {n = 16} (lit< tt) {i = length bs} {j = 16} within in
     absurd (omega arith)
+
+-- Sixteen hexadecimal digits are always read.
+pub hex_read : {E : Type 0} (most : ℕ) (bs : List ℕ) (r : Result ℕ E) → most ≤ 16 → length bs ≤ most → is_numeral_of 16 bs ≡ true → ParsesUnsigned 64 16 bs r → result_ok r ≡ hex_value most bs
+hex_read most bs r few short e reads =
+    let both : is_numeral_of 16 bs && leb (length bs) most ≡ true = ap (λ (b : Bool). b && leb (length bs) most) e ∙ le-leb (length bs) most short in
+    sixteen_read most bs r few short e reads ∙ sym (ap (λ (b : Bool). cond b (Some (digits_value 16 bs)) None) both)
 
 -- a text that does not begin with `x`
 pub without_mark : (bs : List ℕ) → ((rest : List ℕ) → bs ≡ 120 ∷ rest → ⊥) → begins (codes "x") bs ≡ false
@@ -105,18 +107,6 @@ unsigned_from bs x false e none reads digits small =
 pub unsigned_read : {E : Type 0} (bs : List ℕ) (r : Result Float E) → is_minus_numeral bs ≡ false → ParsesFloat binary64 64 bs r → IfSome (result_ok r) (λ x. Whole x bs)
 unsigned_read bs (Err e) none reads = tt
 unsigned_read bs (Ok x) none reads = unsigned_from bs x (starts_with_minus bs) refl none reads
-
--- Digits have no sign of their own.
-unsigned_digits : (ds : List ℕ) → is_numeral_of 10 ds ≡ true → without_sign ds ≡ ds
-unsigned_digits [] e = refl
-unsigned_digits (c ∷ cs) e =
-    let h = (numeral_holds 10 (c ∷ cs) e).1.0 in
-    let plus : eqb c 43 ≡ false = ne_eqb c 43 (λ q. let k : digit_value 43 < 10 = subst (λ (x : ℕ). digit_value x < 10) q h in omega arith) in
-    let less : eqb c 45 ≡ false = ne_eqb c 45 (λ q. let k : digit_value 45 < 10 = subst (λ (x : ℕ). digit_value x < 10) q h in omega arith) in
-    ap (λ (b : Bool). drop (cond (b || eqb c 45) 1 0) (c ∷ cs)) plus ∙ ap (λ (b : Bool). drop (cond b 1 0) (c ∷ cs)) less
-
-pub same_test : (ds : List ℕ) → is_numeral_of 10 ds ≡ true → is_float_text ds ≡ is_float_text (45 ∷ ds)
-same_test ds e = ap (λ (t : List ℕ). completes_number 0 t || (is_infinity_text t || is_nan_text t)) (unsigned_digits ds e)
 
 pub minus_read : {E : Type 0} (ds : List ℕ) (r : Result Float E) → is_numeral_of 10 ds ≡ true → ParsesFloat binary64 64 ds r → IfSome (result_ok r) (λ x. Whole (opposite x) (45 ∷ ds))
 minus_read ds (Err x) e reads = tt

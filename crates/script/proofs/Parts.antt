@@ -1,11 +1,8 @@
 -- Parts of a line read one behind the other: their items and their ways past the words join up.
-use Rattle.std.proofs.Common.{◌≡◌, Bool, false, cond, List, [], ◌∷◌, ◌++◌, length, get_or, Ok, sym, refl, ap, ◌∙◌, subst, inl, inr, append-nil, arith}
+use Rattle.std.proofs.Common.{◌≡◌, List, [], ◌∷◌, ◌++◌, length, get_or, Ok, sym, refl, ap, ◌∙◌, subst, append-nil, arith}
 use Rattle.std.specs.List.{flat_map}
-use Rattle.std.proofs.lemmas.Slice.Eq.{bytes_eq-Decides}
-use Rattle.std.proofs.lemmas.Bool.{cases_Bool}
-use Rattle.std.specs.Str.{bytes_eq}
 use Rattle.script.specs.Grammar.{Item, Says, Spelt}
-use Rattle.script.specs.Readings.{Progress, reached, ◌then◌, by_name, saying, Took}
+use Rattle.script.specs.Readings.{Progress, reached, ◌then◌, by_name, Took}
 use Rattle.script.specs.Words.{Text}
 
 -- the items are spelt from `before` to `after`, and the way leads past them
@@ -46,17 +43,6 @@ named p = record { course = p.course; spelt = (refl, p.spelt) }
 pub name : {is : List Item} {next : Text → List Text → Progress} {t w : Text} {ws before after : List Text} → before ≡ w ∷ ws → w ≡ t → Past is (next t) ws after → Past (Says t ∷ is) (by_name next) before after
 name {is} {next} {t} {w} {ws} {before} {after} e s p =
     subst (λ (us : List Text). Past (Says t ∷ is) (by_name next) us after) (sym (e ∙ ap (λ (u : Text). u ∷ ws) s)) (named p)
-
-pub other_text : {w t : Text} → (w ≡ t → ⊥) → bytes_eq w t ≡ false
-other_text {w} {t} h = elim (cases_Bool (bytes_eq w t)) [ inl e ↦ absurd (h ((bytes_eq-Decides w t).0 e)) | inr e ↦ e ]
-
--- past a word that is not this name
-pub unsaid : {w t : Text} (this other : Progress) → (w ≡ t → ⊥) → other ≡ saying t w this other
-unsaid {w} {t} this other h = sym (ap (λ (b : Bool). cond b this other) (other_text h))
-
--- by the word that stands first
-pub by : (next : Text → List Text → Progress) {w : Text} {ws before : List Text} → before ≡ w ∷ ws → next w ws ≡ by_name next before
-by next e = sym (ap (by_name next) e)
 
 -- ---- arrays
 

@@ -6,14 +6,14 @@ use shape::feature_id::FeatureKind;
 use shape::polygonal_feature3d::FeatureRow;
 
 // The shape and the feature that a command means.
-#[derive(Clone, Copy)]
+#[derive(Clone, Copy, Debug, PartialEq, Eq)]
 pub enum Which {
-    First,
-    Second,
+    First = 0,
+    Second = 1,
 }
 
 // A shape's kind and sizes as given.
-#[derive(Clone, Copy)]
+#[derive(Clone, Copy, Debug, PartialEq)]
 pub enum Form {
     // Half height, then radius.
     Cylinder(f64, f64),
@@ -21,7 +21,7 @@ pub enum Form {
     Cuboid(Vector),
 }
 
-#[derive(Clone, Copy)]
+#[derive(Clone, Copy, Debug, PartialEq)]
 pub enum Command {
     // A line with no word, or whose first word begins with `#`.
     Remark,

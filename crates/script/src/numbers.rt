@@ -1,7 +1,7 @@
 // The three kinds of numbers that a script is written with.
 ghost use Rattle.std.specs.Prelude.{◌≡◌, ◌≤◌, true, false, ◌∷◌, drop, is_some, IfSome, codes, MatchOption};
 ghost use Rattle.std.specs.Float.Parse.{is_float_text};
-ghost use Rattle.script.specs.Numerals.{all_digits, is_numeral_of, is_minus_numeral, place, hex_value, begins, narrowed, word, bits_number, is_number, Whole, Writes};
+ghost use Rattle.script.specs.Numerals.{is_numeral_of, is_minus_numeral, place, hex_value, begins, word, bits_number, is_number, Whole, Writes};
 
 use std::num::f64_from_bits_with_nan;
 

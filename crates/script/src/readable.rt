@@ -55,6 +55,7 @@ impl<A: Readable, B: Readable> Readable for (A, B) {
     }
 }
 
+// No const parameter: `array::try_from_fn` does not say that each call goes on where the one before it ended.
 impl<T: Readable> Readable for [T; 2] {
     ghost items = { flat_map T.items };
 

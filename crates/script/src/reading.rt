@@ -12,7 +12,7 @@ use crate::fault::Fault;
 use crate::words::{Readable, Words};
 use shape::feature_id::FeatureKind;
 
-// What is read is what the line means, and nothing else is; and a line that means a command is read.
+// What is read is what the line means, and nothing else is; and a line that means a command is read. It is no `TryFrom`: its four facts are cited one by one.
 pub fn read_command(line: &[u8]) -> Result<Command, Fault>
     ensures silent { silent line.now ≡ true → result ≡ Ok Remark }
     ensures cases { MatchResult result (Means line.now) (Faulty line.now) }

@@ -8,12 +8,12 @@ ghost use Rattle.script.specs.Words.{Text, words, coming};
 
 use crate::fault::Fault;
 
-// What stands in a line one way only, and is read where it stands.
+// What is read from the words to come, by as many of them as spell it.
 pub trait Readable: Drop {
     // What spells a value, word by word.
     ghost items: { Self → List Item };
 
-    // How far it reaches in the words to come, or the fault that ends its reading.
+    // The words behind it, or the fault that ends its reading.
     ghost past: { List Text → Progress };
 
     fn read(words: &mut Words<'_>) -> Result<Self, Fault>

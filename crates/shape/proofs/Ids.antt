@@ -1,8 +1,8 @@
 -- Ids and what they stand for: a quotient and a remainder by 2^30, so that packing and unpacking undo each other.
 use Rattle.std.proofs.Common.{◌≡◌, ℕ, zero, suc, ◌+◌, ◌-◌, ◌*◌, ◌/◌, ◌%◌, ◌^◌, ◌<◌, ◌≤◌, Bool, true, false, cond, eqb, ltb, Some, None, Option, sym, refl, ap, ◌∙◌, subst, inl, inr, arith}
-use Rattle.std.specs.Int.Bits.{bit_and}
+use Rattle.std.specs.Int.Bits.{bit_and, bit_or}
 use Rattle.std.specs.Option.{option_eq, option_map_or}
-use Rattle.std.proofs.lemmas.Nat.{shr_high, mod_low, shr_split, mod_below, pow_pos, le-div, div_below, and_mask}
+use Rattle.std.proofs.lemmas.Nat.{shr_high, mod_low, shr_split, mod_below, pow_pos, le-div, div_below, and_mask, or_shifted}
 use Rattle.std.proofs.lemmas.Bool.{cases_Bool, ltb-true, lt-ltb, eqb-true, eqb-false, ne_eqb, cond-true}
 use Rattle.math.specs.Refusals.{done, refused}
 use Rattle.shape.specs.Ids.{vertex_header, edge_header, face_header, header, packed, packing, has_header, kind_of, feature_of, unpacked, repacking, OnlyFrom, PacksBack}
@@ -13,6 +13,9 @@ use Rattle.shape.specs.declared.feature_id.FeatureKind.TheVariants as KindOf
 use Rattle.shape.specs.declared.feature_id.PackedFeatureId.{PackedFeatureId}
 use Rattle.shape.specs.contracts.feature_id.FeatureKindPartialEq.TheImpl.{eq-value}
 
+abbrev packed_as : ℕ → PackedFeatureId
+packed_as n = record { 0 = n }
+
 module _ (h c : ℕ) (l : c < 2 ^ 30) where
   pub header_of : (packed h c).0 / 2 ^ 30 ≡ h
   unfolding packed
@@ -21,6 +24,11 @@ module _ (h c : ℕ) (l : c < 2 ^ 30) where
   pub code_of : (packed h c).0 % 2 ^ 30 ≡ c
   unfolding packed
   code_of = mod_low h 30 c l
+
+-- a header has no bit in common with a code, so setting its bits adds it
+pub under_header : (n h c : ℕ) → n ≡ h * 2 ^ 30 → c < 2 ^ 30 → packed_as (bit_or n c) ≡ packed h c
+unfolding packed
+under_header n h c e l = ap (λ (m : ℕ). packed_as (bit_or m c)) e ∙ ap packed_as (or_shifted h 30 c l)
 
 -- an id made of a kind and a code unpacks to them
 pub unpacks : (kind : FeatureKind) (c : ℕ) → c < 2 ^ 30 → unpacked (packed (header kind) c) ≡ feature_of kind c

@@ -81,6 +81,7 @@ impl PackedFeatureId {
         PackedFeatureId::pack(FeatureKind::Face, code)
     }
 
+    #[tactic(auto, using(crate::proofs::Ids::under_header))]
     fn under_header(kind: FeatureKind, code: u32) -> PackedFeatureId
         requires { code < 2 ^ 30 }
         ensures { result ≡ packed (header kind) code }

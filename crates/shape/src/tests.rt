@@ -25,26 +25,24 @@ fn cylinder_feature(dir: Vector, hint: Option<Vector>) -> Result<PolygonalFeatur
 #[test]
 fn cuboid_faces(rt: HostRuntime) -> Result<(), Fail> {
     let up = cuboid_face(0.0, 1.0, 0.0)?;
-    assert!(rt; up.vids.map(|id| id.unpack()) == [4, 12, 14, 6].map(FeatureId::Vertex));
-    assert!(rt; up.eids.map(|id| id.unpack()) == [242, 254, 251, 218].map(FeatureId::Edge));
-    assert!(rt; up.fid.unpack() == FeatureId::Face(14));
-    assert!(rt; cuboid_face(1.0, 1.0, 1.0)?.fid.unpack() == FeatureId::Face(13));
-    assert!(rt; cuboid_face(-0.0, 0.0, 0.0)?.fid.unpack() == FeatureId::Face(10));
+    assert_eq!(rt; up.vids.map(|id| id.unpack()), [4, 12, 14, 6].map(FeatureId::Vertex));
+    assert_eq!(rt; up.eids.map(|id| id.unpack()), [242, 254, 251, 218].map(FeatureId::Edge));
+    assert_eq!(rt; up.fid.unpack(), FeatureId::Face(14));
+    assert_eq!(rt; cuboid_face(1.0, 1.0, 1.0)?.fid.unpack(), FeatureId::Face(13));
+    assert_eq!(rt; cuboid_face(-0.0, 0.0, 0.0)?.fid.unpack(), FeatureId::Face(10));
     Ok(())
 }
 
 #[test]
 fn cylinder_features(rt: HostRuntime) -> Result<(), Fail> {
     let side = cylinder_feature(Vector::new(1.0, 0.25, 0.0), None)?;
-    assert!(rt; side.vertices[0] == Vector::new(1.0, -2.0, 0.0));
-    assert!(rt; side.vertices[1] == Vector::new(1.0, 2.0, 0.0));
-    assert!(rt;
-        cylinder_feature(Vector::new(0.0, 0.5, 0.0), None)?
-            .fid
-            .unpack()
-            == FeatureId::Face(19)
-    );
+    let [lower, upper, _, _] = side.vertices;
+    assert_eq!(rt; lower, Vector::new(1.0, -2.0, 0.0));
+    assert_eq!(rt; upper, Vector::new(1.0, 2.0, 0.0));
+    let just_cap = cylinder_feature(Vector::new(0.0, 0.5, 0.0), None)?;
+    assert_eq!(rt; just_cap.fid.unpack(), FeatureId::Face(19));
     let cap = cylinder_feature(Vector::new(0.0, 1.0, 0.0), Some(Vector::new(0.0, 5.0, 0.0)))?;
-    assert!(rt; cap.vertices[0] == Vector::new(1.0, 2.0, 0.0));
+    let [first, _, _, _] = cap.vertices;
+    assert_eq!(rt; first, Vector::new(1.0, 2.0, 0.0));
     Ok(())
 }

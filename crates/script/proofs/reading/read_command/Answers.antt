@@ -54,9 +54,6 @@ unread line (Err f) loud none e = subst (Faulty line) (sym e) (not_text loud non
 pub returns-then-is_silent-clause-cases : goal.returns-then-is_silent-clause-cases
 returns-then-is_silent-clause-cases c = remark (sym c.if-is_silent.ensures)
 
-pub returns-then-is_silent-clause-one : goal.returns-then-is_silent-clause-one
-returns-then-is_silent-clause-one c = λ _ means. silence _ (sym c.if-is_silent.ensures) means
-
 pub returns-in_err-from_utf8-clause-cases : goal.returns-in_err-from_utf8-clause-cases
 returns-in_err-from_utf8-clause-cases c =
     unread c.args.line.now c.from_residual.result (sym c.if-is_silent.ensures) c.in_err-from_utf8.ensures.cases.0 c.from_residual.ensures.1

@@ -1,14 +1,11 @@
 -- The word is what stands between the spaces in front and the next one.
 use Rattle.std.proofs.Common.{◌≡◌, ◌<◌, List, [], ◌∷◌, length, Some, None, sym, refl, ap, ◌∙◌, arith, lit<, eqb-true}
 use borrow.Author.Tests.{eqb-false}
+use Rattle.std.proofs.lemmas.List.{nil_from_length}
 use Rattle.std.proofs.lemmas.Str.Pattern.{split_parts}
 use Rattle.script.specs.Words.{Text, one_word, words_from}
 use Rattle.script.proofs.Cuts.{first_word, last_word}
 use Rattle.script.proofs.words.WordsIterator.next.Goals as goal
-
-none : (t : Text) → length t ≡ 0 → one_word t ≡ []
-none [] e = refl
-none (x ∷ t) e = absurd (omega arith)
 
 some : (t : Text) → (length t ≡ 0 → ⊥) → one_word t ≡ t ∷ []
 some [] h = absurd (h refl)
@@ -32,9 +29,8 @@ unfolding words_from
 returns-then-is_empty-clause-steps c =
     let text = c.trim_start_matches-text.result.now in
     let spaceless = split_parts 32 text None c.in-None.ensures.cases (lit< tt) in
-    let before =
-    last_word c.args.self.now.rest.now text c.trim_start_matches-text.ensures.matches spaceless
-    ∙ none text (eqb-true (length text) 0 (sym c.if-is_empty.ensures))
+    let before = last_word c.args.self.now.rest.now text c.trim_start_matches-text.ensures.matches spaceless
+    ∙ ap one_word (nil_from_length text (eqb-true (length text) 0 (sym c.if-is_empty.ensures)))
     in
     (before, refl)
 
