@@ -7,15 +7,16 @@ use Rattle.std.proofs.lemmas.Bool.{cases_Bool, or_parts, cond-true, cond-false, 
 use Rattle.math.specs.Floats.{◌⊕◌, ◌⊖◌, ◌⊗◌, ◌⊘◌, bits, zero, one}
 use Rattle.math.specs.Magnitude.{bound, within, vector_within}
 use Rattle.math.specs.Refusals.{done, refused}
-use Rattle.math.specs.Vectors.{added, subtracted, scaled, dotted}
+use Rattle.math.specs.Vectors.{subtracted, scaled, dotted}
 use Rattle.math.specs.declared.vector.Vector.{Vector}
 use Rattle.math.proofs.Fraction.{fraction_within, squeezed}
 use Rattle.math.proofs.Magnitude.{no, within_more}
 use Rattle.math.proofs.Order.{lt_not_eq, lt_asym}
 use Rattle.math.proofs.VectorMagnitude.{vector_more, added_within, subtracted_within, scaled_within, dotted_within}
 use Rattle.shape.specs.Nearness.{vertex_limit}
-use Rattle.query.specs.Clips.{Segment, Clip, clip_limit, clip_near, clipped, product, ordered, undefined, apart, between, low_end, high_end}
+use Rattle.query.specs.Clips.{Segment, Clip, clip_limit, clip_near, clipped, product, forward, ordered, undefined, apart, along_range, end_clip, low_end, high_end}
 use Rattle.query.specs.declared.clip_segment_segment.Range.{Range}
+use Rattle.query.specs.declared.clip_segment_segment.Ranges.{Ranges}
 
 -- ---- the bounds: the ends of edge 1 and of edge 2, both in the frame of the first feature
 
@@ -153,12 +154,12 @@ zero_fits = tt
 -- ---- the second segment along the first
 
 pub record Lies (r : Range) : Type 0 where
-  pub low : within along r.low ≡ true
-  pub high : within along r.high ≡ true
-  pub low_fits : T (fits binary64 r.low)
-  pub high_fits : T (fits binary64 r.high)
-  pub first : vector_within end2 r.first ≡ true
-  pub last : vector_within end2 r.last ≡ true
+  pub low : within along r.first.product ≡ true
+  pub high : within along r.last.product ≡ true
+  pub low_fits : T (fits binary64 r.first.product)
+  pub high_fits : T (fits binary64 r.last.product)
+  pub first : vector_within end2 r.first.point ≡ true
+  pub last : vector_within end2 r.last.point ≡ true
 
 module _ (seg1 : Segment) (h0 : vector_within end1 seg1.0 ≡ true) (h1 : vector_within end1 seg1.1 ≡ true) where
   abbrev tangent : Vector
@@ -202,26 +203,35 @@ module _ (seg1 : Segment) (h0 : vector_within end1 seg1.0 ≡ true) (h1 : vector
         choose false x y = y
 
   -- ---- the two ends, for any range that lies so, where the clip is defined and the ranges meet
-  module _ (r : Range) (l : Lies r) (defined : undefined sq r ≡ false) (meet : apart sq r ≡ false) where
-    not_past : lt sq r.low ≡ false
+  abbrev beside : Range → Ranges
+  beside r = record { tangent1 = tangent; range1 = forward seg1 zero sq; range2 = r }
+
+  module _ (r : Range) (l : Lies r) (defined : undefined (beside r) ≡ false) (meet : apart (beside r) ≡ false) where
+    abbrev low : Float
+    low = r.first.product
+
+    abbrev high : Float
+    high = r.last.product
+
+    not_past : lt sq low ≡ false
     unfolding apart
     not_past = (or_parts _ _ meet).0
 
-    not_before : lt r.high zero ≡ false
+    not_before : lt high zero ≡ false
     unfolding apart
     not_before = (or_parts _ _ meet).1
 
     -- an end of the second segment at an end of the first makes the clip undefined
-    clash : eq r.low r.high ≡ true → (eq r.low zero || eq r.low sq) ≡ true → false ≡ true
+    clash : eq low high ≡ true → (eq low zero || eq low sq) ≡ true → false ≡ true
     unfolding undefined
     clash e f = sym defined ∙ and_from _ _ e f
 
-    unequal : (a : Float) → within along a ≡ true → lt a r.low ≡ false → lt r.high a ≡ false → (eq r.low a ≡ true → (eq r.low zero || eq r.low sq) ≡ true) → eq r.low r.high ≡ false
-    unequal a A h j f = elim (cases_Bool (eq r.low r.high)) [ inr n ↦ n | inl e ↦ no (clash e (f (squeezed along a r.high r.low along_is A l.high l.low h j e).0)) ]
+    unequal : (a : Float) → within along a ≡ true → lt a low ≡ false → lt high a ≡ false → (eq low a ≡ true → (eq low zero || eq low sq) ≡ true) → eq low high ≡ false
+    unequal a A h j f = elim (cases_Bool (eq low high)) [ inr n ↦ n | inl e ↦ no (clash e (f (squeezed along a high low along_is A l.high l.low h j e).0)) ]
 
     -- a fraction of the second segment
-    second_fraction : (a : Float) → within along a ≡ true → lt a r.low ≡ false → lt r.high a ≡ false → (eq r.low a ≡ true → (eq r.low zero || eq r.low sq) ≡ true) → within one ((a ⊖ r.low) ⊘ (r.high ⊖ r.low)) ≡ true
-    second_fraction a A h j f = fraction_within along a r.high r.low along_is twice_along_is A l.high l.low l.high_fits l.low_fits h j (unequal a A h j f)
+    second_fraction : (a : Float) → within along a ≡ true → lt a low ≡ false → lt high a ≡ false → (eq low a ≡ true → (eq low zero || eq low sq) ≡ true) → within one ((a ⊖ low) ⊘ (high ⊖ low)) ≡ true
+    second_fraction a A h j f = fraction_within along a high low along_is twice_along_is A l.high l.low l.high_fits l.low_fits h j (unequal a A h j f)
 
     -- a fraction of the first
     first_fraction : (a : Float) → within along a ≡ true → lt a zero ≡ false → lt sq a ≡ false → (eq zero sq ≡ true → false ≡ true) → within one ((a ⊖ zero) ⊘ (sq ⊖ zero)) ≡ true
@@ -229,16 +239,17 @@ module _ (seg1 : Segment) (h0 : vector_within end1 seg1.0 ≡ true) (h1 : vector
         fraction_within along a sq zero along_is twice_along_is A sq_along zero_along sq_fits zero_fits h j
         (elim (cases_Bool (eq zero sq)) [ inr n ↦ n | inl e ↦ no (f e) ])
 
-    on_first : (t : Float) → within one t ≡ true → vector_within clip_limit (added seg1.0 (scaled tangent t)) ≡ true
-    on_first t h =
+    on_first : (a : Float) → within one ((a ⊖ zero) ⊘ (sq ⊖ zero)) ≡ true → vector_within clip_limit (along_range (forward seg1 zero sq) tangent a) ≡ true
+    unfolding along_range
+    on_first a h =
         vector_more (end1 ⊕ tangent_bound ⊗ one) clip_limit _ first_is clip_limit_is first_near
-        (added_within end1 (tangent_bound ⊗ one) end1_is scaled_is seg1.0 (scaled tangent t) h0 (scaled_within tangent_bound one tangent_is one_is tangent t tangent_within h))
+        (added_within end1 (tangent_bound ⊗ one) end1_is scaled_is seg1.0 (scaled tangent _) h0 (scaled_within tangent_bound one tangent_is one_is tangent _ tangent_within h))
 
-    on_second : (t : Float) → within one t ≡ true → vector_within clip_limit (between r t) ≡ true
-    unfolding between
-    on_second t h =
+    on_second : (a : Float) → within one ((a ⊖ low) ⊘ (high ⊖ low)) ≡ true → vector_within clip_limit (along_range r (subtracted r.last.point r.first.point) a) ≡ true
+    unfolding along_range
+    on_second a h =
         vector_more (end2 ⊕ (end2 ⊕ end2) ⊗ one) clip_limit _ second_is clip_limit_is second_near
-        (added_within end2 ((end2 ⊕ end2) ⊗ one) end2_is scaled_span_is r.first _ l.first (scaled_within (end2 ⊕ end2) one span_is one_is _ t (subtracted_within end2 end2 end2_is end2_is r.last r.first l.last l.first) h))
+        (added_within end2 ((end2 ⊕ end2) ⊗ one) end2_is scaled_span_is r.first.point _ l.first (scaled_within (end2 ⊕ end2) one span_is one_is _ _ (subtracted_within end2 end2 end2_is end2_is r.last.point r.first.point l.last l.first) h))
 
     at_first : (v : Vector) → vector_within end1 v ≡ true → vector_within clip_limit v ≡ true
     at_first v h = vector_more end1 clip_limit v end1_is clip_limit_is end1_near h
@@ -246,26 +257,26 @@ module _ (seg1 : Segment) (h0 : vector_within end1 seg1.0 ≡ true) (h1 : vector
     at_second : (v : Vector) → vector_within end2 v ≡ true → vector_within clip_limit v ≡ true
     at_second v h = vector_more end2 clip_limit v end2_is clip_limit_is end2_near h
 
-    low_near : clip_near (low_end seg1 tangent sq r) ≡ true
-    unfolding low_end
-    low_near = by (lt zero r.low) refl
+    low_near : clip_near (low_end (beside r)) ≡ true
+    unfolding low_end end_clip
+    low_near = by (lt zero low) refl
       where
-        by : (t : Bool) → lt zero r.low ≡ t → clip_near (cond t (added seg1.0 (scaled tangent ((r.low ⊖ zero) ⊘ (sq ⊖ zero))), r.first, 1, r.first_feature) (seg1.0, between r ((zero ⊖ r.low) ⊘ (r.high ⊖ r.low)), 0, 1)) ≡ true
+        by : (t : Bool) → lt zero low ≡ t → clip_near (end_clip (beside r) (beside r).range1.first r.first t) ≡ true
         by true e =
-            let f = first_fraction r.low l.low (lt_asym zero r.low e) not_past
-            (λ z. sym (lt_not_eq zero r.low e) ∙ (squeezed along r.low sq zero along_is l.low sq_along zero_along (lt_asym zero r.low e) not_past z).0) in
-            and_from _ _ (on_first _ f) (at_second r.first l.first)
+            let f = first_fraction low l.low (lt_asym zero low e) not_past
+            (λ z. sym (lt_not_eq zero low e) ∙ (squeezed along low sq zero along_is l.low sq_along zero_along (lt_asym zero low e) not_past z).0) in
+            and_from _ _ (on_first _ f) (at_second r.first.point l.first)
         by false e = and_from _ _ (at_first seg1.0 h0) (on_second _ (second_fraction zero zero_along e not_before (λ z. or_left _ _ z)))
 
-    high_near : clip_near (high_end seg1 tangent sq r) ≡ true
-    unfolding high_end
-    high_near = by (lt r.high sq) refl
+    high_near : clip_near (high_end (beside r)) ≡ true
+    unfolding high_end end_clip
+    high_near = by (lt high sq) refl
       where
-        by : (t : Bool) → lt r.high sq ≡ t → clip_near (cond t (added seg1.0 (scaled tangent ((r.high ⊖ zero) ⊘ (sq ⊖ zero))), r.last, 1, r.last_feature) (seg1.1, between r ((sq ⊖ r.low) ⊘ (r.high ⊖ r.low)), 2, 1)) ≡ true
+        by : (t : Bool) → lt high sq ≡ t → clip_near (end_clip (beside r) (beside r).range1.last r.last t) ≡ true
         by true e =
-            let f = first_fraction r.high l.high not_before (lt_asym r.high sq e)
-            (λ z. sym (lt_not_eq r.high sq e) ∙ (squeezed along r.high sq zero along_is l.high sq_along zero_along not_before (lt_asym r.high sq e) z).1) in
-            and_from _ _ (on_first _ f) (at_second r.last l.last)
+            let f = first_fraction high l.high not_before (lt_asym high sq e)
+            (λ z. sym (lt_not_eq high sq e) ∙ (squeezed along high sq zero along_is l.high sq_along zero_along not_before (lt_asym high sq e) z).1) in
+            and_from _ _ (on_first _ f) (at_second r.last.point l.last)
         by false e = and_from _ _ (at_first seg1.1 h1) (on_second _ (second_fraction sq sq_along not_past e (λ z. or_right _ _ z)))
 
   -- ---- whatever the clip answers, its points lie near
@@ -274,14 +285,14 @@ module _ (seg1 : Segment) (h0 : vector_within end1 seg1.0 ≡ true) (h1 : vector
     unfolding clipped
     clipped_near lo hi h =
         let r = ordered seg1 tangent seg2 in
-        elim (cases_Bool (undefined sq r)) [
-          | inl u ↦ absurd (refused_not_done (sym (cond-true (undefined sq r) _ _ u) ∙ h))
+        elim (cases_Bool (undefined (beside r))) [
+          | inl u ↦ absurd (refused_not_done (sym (cond-true (undefined (beside r)) _ _ u) ∙ h))
           | inr d ↦
-              let h' = sym (cond-false (undefined sq r) _ _ d) ∙ h in
-              elim (cases_Bool (apart sq r)) [
-                | inl a ↦ absurd (none_not_some (sym (cond-true (apart sq r) _ _ a) ∙ h'))
+              let h' = sym (cond-false (undefined (beside r)) _ _ d) ∙ h in
+              elim (cases_Bool (apart (beside r))) [
+                | inl a ↦ absurd (none_not_some (sym (cond-true (apart (beside r)) _ _ a) ∙ h'))
                 | inr m ↦
-                    let e = sym (cond-false (apart sq r) _ _ m) ∙ h' in
+                    let e = sym (cond-false (apart (beside r)) _ _ m) ∙ h' in
                     let l = lies seg2 k0 k1 in
                     let same = same_pair e in (
                       subst (λ (p : Clip × Clip). clip_near p.0 ≡ true) same (low_near r l d m),

@@ -6,6 +6,7 @@ use Rattle.std.specs.Float.{float_with_sign}
 use Rattle.math.specs.Floats.{size}
 use Rattle.math.specs.declared.vector.Vector.{Vector}
 use Rattle.query.specs.Bounds.{below_all, bounded}
+use Rattle.query.specs.declared.contact_manifold.TrackedContact.{TrackedContact}
 
 below_number : (x y : Float) → lt (size x) y ≡ true → T (not (is_nan x))
 unfolding lt is_nan float_with_sign
@@ -14,27 +15,27 @@ below_number (inf s) y e = tt
 below_number (fin s m k) y e = tt
 
 -- a point's three numbers
-pub record Numbers (v : Vector) : Type 0 where
+pub record AreNumbers (v : Vector) : Type 0 where
   pub x : T (not (is_nan v.x))
   pub y : T (not (is_nan v.y))
   pub z : T (not (is_nan v.z))
 
-below_numbers : (v : Vector) → below_all v ≡ true → Numbers v
+below_numbers : (v : Vector) → below_all v ≡ true → AreNumbers v
 unfolding below_all
 below_numbers v e =
     let xyz = and_parts _ _ e in
     let xy = and_parts _ _ xyz.0 in
     record { x = below_number v.x _ xy.0; y = below_number v.y _ xy.1; z = below_number v.z _ xyz.1 }
 
-module _ (p1 p2 : Vector) (d : Float) (e : bounded p1 p2 d ≡ true) where
-  pub first_numbers : Numbers p1
-  unfolding bounded
-  first_numbers = below_numbers p1 (and_parts _ _ (and_parts _ _ e).0).0
+-- those of a contact
+pub record HasNumbers {D : Type 0} (k : TrackedContact D) : Type 0 where
+  pub p1 : AreNumbers k.local_p1
+  pub p2 : AreNumbers k.local_p2
+  pub dist : T (not (is_nan k.dist))
 
-  pub second_numbers : Numbers p2
-  unfolding bounded
-  second_numbers = below_numbers p2 (and_parts _ _ (and_parts _ _ e).0).1
-
-  pub dist_number : T (not (is_nan d))
-  unfolding bounded
-  dist_number = below_number d _ (and_parts _ _ e).1
+pub has_numbers : {D : Type 0} (k : TrackedContact D) → HasNumbers k
+unfolding bounded
+has_numbers k =
+    let e = and_parts _ _ k.lawful in
+    let points = and_parts _ _ e.0 in
+    record { p1 = below_numbers k.local_p1 points.0; p2 = below_numbers k.local_p2 points.1; dist = below_number k.dist _ e.1 }

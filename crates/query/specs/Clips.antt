@@ -7,7 +7,9 @@ use Rattle.math.specs.Magnitude.{vector_within}
 use Rattle.math.specs.Refusals.{Answer, done, refused}
 use Rattle.math.specs.Vectors.{added, subtracted, scaled, dotted}
 use Rattle.math.specs.declared.vector.Vector.{Vector}
+use Rattle.query.specs.declared.clip_segment_segment.End.{End}
 use Rattle.query.specs.declared.clip_segment_segment.Range.{Range}
+use Rattle.query.specs.declared.clip_segment_segment.Ranges.{Ranges}
 
 abbrev pub Segment : Type 0
 Segment = Vector × Vector
@@ -28,54 +30,59 @@ unfoldable pub product : Segment → Vector → Vector → Float
 product seg1 tangent p = dotted (subtracted p seg1.0) tangent
 
 abbrev pub forward : Segment → Float → Float → Range
-forward seg2 a b = record { low = a; high = b; first = seg2.0; last = seg2.1; first_feature = 0; last_feature = 2 }
+forward seg a b = record { first = record { product = a; point = seg.0; feature = 0 }; last = record { product = b; point = seg.1; feature = 2 } }
 
-abbrev pub backward : Segment → Float → Float → Range
-backward seg2 a b = record { low = b; high = a; first = seg2.1; last = seg2.0; first_feature = 2; last_feature = 0 }
+abbrev pub backward : Range → Range
+backward r = record { first = r.last; last = r.first }
 
 -- the end with the lower product first
+abbrev pub in_order : Range → Range
+in_order r = cond (Ieee.lt r.last.product r.first.product) (backward r) r
+
 unfoldable pub ordered : Segment → Vector → Segment → Range
 unfolding product
-ordered seg1 tangent seg2 =
-    let a = product seg1 tangent seg2.0 in
-    let b = product seg1 tangent seg2.1 in
-    cond (Ieee.lt b a) (backward seg2 a b) (forward seg2 a b)
+ordered seg1 tangent seg2 = in_order (forward seg2 (product seg1 tangent seg2.0) (product seg1 tangent seg2.1))
 
--- both ends of the second segment have the same product, and it is 0 or the squared length of the first
-unfoldable pub undefined : Float → Range → Bool
-undefined sq r = Ieee.eq r.low r.high && (Ieee.eq r.low zero || Ieee.eq r.low sq)
+-- The range of the first segment is from 0 to its squared length.
+abbrev pub ranges : Segment → Segment → Ranges
+ranges seg1 seg2 =
+    let tangent = subtracted seg1.1 seg1.0 in
+    record { tangent1 = tangent; range1 = forward seg1 zero (dotted tangent tangent); range2 = ordered seg1 tangent seg2 }
+
+-- both ends of the second segment have the same product, and it is that of an end of the first
+unfoldable pub undefined : Ranges → Bool
+undefined r =
+    Ieee.eq r.range2.first.product r.range2.last.product
+    && (Ieee.eq r.range2.first.product r.range1.first.product || Ieee.eq r.range2.first.product r.range1.last.product)
 
 -- the two ranges share nothing
-unfoldable pub apart : Float → Range → Bool
-apart sq r = Ieee.lt sq r.low || Ieee.lt r.high zero
+unfoldable pub apart : Ranges → Bool
+apart r = Ieee.lt r.range1.last.product r.range2.first.product || Ieee.lt r.range2.last.product r.range1.first.product
 
--- the point at a fraction from the first end of the second segment to its last
-unfoldable pub between : Range → Float → Vector
-between r t = added r.first (scaled (subtracted r.last r.first) t)
+-- the point that has a product, on the line from the first end in a direction
+unfoldable pub along_range : Range → Vector → Float → Vector
+along_range r direction p = added r.first.point (scaled direction ((p ⊖ r.first.product) ⊘ (r.last.product ⊖ r.first.product)))
+
+-- the clip at the end of the second segment if that lies inside the first, or else at the end of the first
+unfoldable pub end_clip : Ranges → End → End → Bool → Clip
+end_clip r e1 e2 inside =
+    cond inside
+    (along_range r.range1 r.tangent1 e2.product, e2.point, 1, e2.feature)
+    (e1.point, along_range r.range2 (subtracted r.range2.last.point r.range2.first.point) e1.product, e1.feature, 1)
 
 -- the clip where the shared part begins
-unfoldable pub low_end : Segment → Vector → Float → Range → Clip
-low_end seg1 tangent sq r =
-    cond (Ieee.lt zero r.low)
-    (added seg1.0 (scaled tangent ((r.low ⊖ zero) ⊘ (sq ⊖ zero))), r.first, 1, r.first_feature)
-    (seg1.0, between r ((zero ⊖ r.low) ⊘ (r.high ⊖ r.low)), 0, 1)
+unfoldable pub low_end : Ranges → Clip
+low_end r = end_clip r r.range1.first r.range2.first (Ieee.lt r.range1.first.product r.range2.first.product)
 
 -- the clip where the shared part ends
-unfoldable pub high_end : Segment → Vector → Float → Range → Clip
-high_end seg1 tangent sq r =
-    cond (Ieee.lt r.high sq)
-    (added seg1.0 (scaled tangent ((r.high ⊖ zero) ⊘ (sq ⊖ zero))), r.last, 1, r.last_feature)
-    (seg1.1, between r ((sq ⊖ r.low) ⊘ (r.high ⊖ r.low)), 2, 1)
+unfoldable pub high_end : Ranges → Clip
+high_end r = end_clip r r.range1.last r.range2.last (Ieee.lt r.range2.last.product r.range1.last.product)
 
-abbrev pub both_ends : Segment → Vector → Float → Range → Answer (Option (Clip × Clip))
-both_ends seg1 tangent sq r =
-    cond (undefined sq r) (refused 13)
-    (cond (apart sq r) (done None) (done (Some (low_end seg1 tangent sq r, high_end seg1 tangent sq r))))
+abbrev pub both_ends : Ranges → Answer (Option (Clip × Clip))
+both_ends r = cond (undefined r) (refused 13) (cond (apart r) (done None) (done (Some (low_end r, high_end r))))
 
 unfoldable pub clipped : Segment → Segment → Answer (Option (Clip × Clip))
-clipped seg1 seg2 =
-    let tangent = subtracted seg1.1 seg1.0 in
-    both_ends seg1 tangent (dotted tangent tangent) (ordered seg1 tangent seg2)
+clipped seg1 seg2 = both_ends (ranges seg1 seg2)
 
 -- Turned down with 2 where a coordinate may not be given.
 unfoldable pub clipping : Segment → Segment → Answer (Option (Clip × Clip))

@@ -2,6 +2,7 @@
 use Rattle.std.specs.Prelude.{ℕ, zero, suc, ◌+◌, ◌-◌, ◌*◌, ◌/◌, ◌%◌, ◌^◌, cond, List, [], ◌∷◌, ◌++◌, length, drop, nat_lt, Float}
 use Rattle.std.specs.Float.Ieee as Ieee
 use Rattle.std.specs.Float.{binary64}
+use Rattle.std.specs.List.{flat_map}
 use Rattle.math.specs.Refusals.{Answer, done, refused}
 use Rattle.query.specs.Contacts.{Contact}
 
@@ -31,16 +32,7 @@ abbrev pub group : ℕ → ℕ → ℕ → List ℕ
 group n v end = hex n v ++ (end ∷ [])
 
 unfoldable pub line : {D : Type 0} → Contact D → List ℕ
-line c =
-    group 16 (pattern c.p1.x) 32
-    ++ group 16 (pattern c.p1.y) 32
-    ++ group 16 (pattern c.p1.z) 32
-    ++ group 16 (pattern c.p2.x) 32
-    ++ group 16 (pattern c.p2.y) 32
-    ++ group 16 (pattern c.p2.z) 32
-    ++ group 16 (pattern c.dist) 32
-    ++ group 8 c.fid1.0 32
-    ++ group 8 c.fid2.0 10
+line c = flat_map (λ v. group 16 v 32) (words c) ++ group 8 c.fid1.0 32 ++ group 8 c.fid2.0 10
 
 -- A buffer of fewer than 137 bytes is turned down with 14.
 abbrev pub lining : List ℕ → Answer (Unit {0})

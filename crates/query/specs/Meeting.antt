@@ -1,13 +1,12 @@
 -- Where two lines of the plane meet, after Ericson, Real-Time Collision Detection: the formulas, as f64 computes them and as exact numbers have them.
-use Rattle.std.specs.Prelude.{◌≡◌, ℕ, Bool, cond, ◌&&◌, ◌||◌, List, ℤ, pos, ◌+ℤ◌, ◌-ℤ◌, ◌*ℤ◌, Some, None, Option, ◌≢◌, slice_index_or, Float}
+use Rattle.std.specs.Prelude.{◌≡◌, Bool, cond, ◌&&◌, ◌||◌, List, ℤ, pos, ◌+ℤ◌, ◌-ℤ◌, ◌*ℤ◌, Some, None, Option, ◌≢◌, Float}
 use Rattle.std.specs.Float.Ieee as Ieee
-use Rattle.std.specs.Float.{nan}
 use Rattle.math.specs.Floats.{◌⊕◌, ◌⊖◌, ◌⊗◌, ◌⊘◌, opposite, zero}
 use Rattle.math.specs.Limits.{limit}
 use Rattle.math.specs.Magnitude.{vector2_within}
 use Rattle.math.specs.Nearly.{epsilon, bits_close}
 use Rattle.math.specs.Refusals.{Answer, done, refused}
-use Rattle.math.specs.Vectors2.{subtracted, dotted}
+use Rattle.math.specs.Vectors2.{point_at, subtracted, dotted}
 use Rattle.math.specs.declared.vector2.Vector2.{Vector2}
 
 -- ---- the formulas, over any numbers
@@ -33,14 +32,11 @@ pub record Products : Type 0 where
   pub e : Float
   pub f : Float
 
-abbrev pub point : List Vector2 → ℕ → Vector2
-point ps i = slice_index_or ps i (record { x = nan; y = nan })
-
 unfoldable pub products : List Vector2 → List Vector2 → Products
 products edge1 edge2 =
-    let d1 = subtracted (point edge1 1) (point edge1 0) in
-    let d2 = subtracted (point edge2 1) (point edge2 0) in
-    let r = subtracted (point edge1 0) (point edge2 0) in
+    let d1 = subtracted (point_at edge1 1) (point_at edge1 0) in
+    let d2 = subtracted (point_at edge2 1) (point_at edge2 0) in
+    let r = subtracted (point_at edge1 0) (point_at edge2 0) in
     record { a = dotted d1 d1; b = dotted d1 d2; c = dotted d1 r; e = dotted d2 d2; f = dotted d2 r }
 
 -- at most 2^-52
@@ -68,7 +64,7 @@ meeting p =
 -- Turned down with 2 where a coordinate may not be given.
 unfoldable pub meeting_answer : List Vector2 → List Vector2 → Answer (Option (Float × Float))
 meeting_answer edge1 edge2 =
-    cond (vector2_within limit (point edge1 0) && vector2_within limit (point edge1 1) && vector2_within limit (point edge2 0) && vector2_within limit (point edge2 1))
+    cond (vector2_within limit (point_at edge1 0) && vector2_within limit (point_at edge1 1) && vector2_within limit (point_at edge2 0) && vector2_within limit (point_at edge2 1))
     (done (meeting (products edge1 edge2))) (refused 2)
 
 -- ---- as exact numbers have them: coordinates are whole numbers in any common unit, so every fraction is covered

@@ -1,7 +1,9 @@
 // Two segments projected on one another, clipped to the part that they share.
+#![tactic(auto, unfolding(crate::specs::Clips::product, crate::specs::Clips::ordered, crate::specs::Clips::undefined, crate::specs::Clips::apart, crate::specs::Clips::along_range, crate::specs::Clips::end_clip, crate::specs::Clips::low_end, crate::specs::Clips::high_end, crate::specs::Clips::clipped, crate::specs::Clips::clipping))]
+
 ghost use Rattle.std.specs.Prelude.{◌≡◌};
 ghost use Rattle.math.specs.Refusals.{told};
-ghost use Rattle.query.specs.Clips.{ordered, undefined, low_end, high_end, clipped, clipping};
+ghost use Rattle.query.specs.Clips.{forward, in_order, along_range, ranges, undefined, apart, end_clip, low_end, high_end, clipped, clipping};
 
 use math::limits::{Given, SquaredLength};
 use math::refusal::Refusal;
@@ -10,15 +12,135 @@ use math::vector::Vector;
 // A point of each segment, and where it lies: 0 is the first vertex, 1 between, 2 the second vertex.
 pub type ClippingPoints = (Vector, Vector, usize, usize);
 
-// The ends of the second segment by their products along the first, the lower one first.
+// A vertex of a segment: how far it lies along the first segment, and the number that stands for it in a clip.
+#[derive(Clone, Copy)]
+pub struct End {
+    pub product: f64,
+    pub point: Vector,
+    pub feature: usize,
+}
+
+// The ends of a segment, the one with the lower product first.
 #[derive(Clone, Copy)]
 pub struct Range {
-    pub low: f64,
-    pub high: f64,
-    pub first: Vector,
-    pub last: Vector,
-    pub first_feature: usize,
-    pub last_feature: usize,
+    pub first: End,
+    pub last: End,
+}
+
+impl Range {
+    fn new(seg: (Vector, Vector), start: f64, end: f64) -> Self
+        ensures { result ≡ forward seg start end }
+    {
+        Range {
+            first: End {
+                product: start,
+                point: seg.0,
+                feature: 0,
+            },
+            last: End {
+                product: end,
+                point: seg.1,
+                feature: 2,
+            },
+        }
+    }
+
+    fn ordered(self) -> Self
+        ensures { result ≡ in_order self }
+    {
+        if self.last.product < self.first.product {
+            Range {
+                first: self.last,
+                last: self.first,
+            }
+        } else {
+            self
+        }
+    }
+
+    // The point that has this product, on the line from the first end in a direction.
+    fn at(&self, direction: Vector, product: f64) -> Vector
+        ensures { result ≡ along_range self.now direction product }
+    {
+        let length = self.last.product - self.first.product;
+        let bcoord = (product - self.first.product) / length;
+        self.first.point.add(direction.scale(bcoord))
+    }
+}
+
+// Both segments along the first, whose own range is from 0 to its squared length.
+#[derive(Clone, Copy)]
+struct Ranges {
+    tangent1: Vector,
+    range1: Range,
+    range2: Range,
+}
+
+impl Ranges {
+    fn new(seg1: (Vector, Vector), seg2: (Vector, Vector)) -> Self
+        ensures { result ≡ ranges seg1 seg2 }
+    {
+        // NOTE: no need to normalize the tangent.
+        let tangent1 = seg1.1.sub(seg1.0);
+        let product = |point: Vector| point.sub(seg1.0).dot(tangent1);
+        Ranges {
+            tangent1,
+            range1: Range::new(seg1, 0.0, tangent1.length_squared()),
+            range2: Range::new(seg2, product(seg2.0), product(seg2.1)).ordered(),
+        }
+    }
+
+    // Both ends of the second segment lie at the same product, at an end of the first.
+    fn are_undefined(&self) -> bool
+        ensures { result ≡ undefined self.now }
+    {
+        let Ranges { range1, range2, .. } = self;
+        range2.first.product == range2.last.product
+            && (range2.first.product == range1.first.product
+                || range2.first.product == range1.last.product)
+    }
+
+    fn are_apart(&self) -> bool
+        ensures { result ≡ apart self.now }
+    {
+        let Ranges { range1, range2, .. } = self;
+        range2.first.product > range1.last.product || range1.first.product > range2.last.product
+    }
+
+    // Where the shared part begins.
+    fn low_end(&self) -> ClippingPoints
+        ensures { result ≡ low_end self.now }
+    {
+        let (end1, end2) = (self.range1.first, self.range2.first);
+        self.clip_at(end1, end2, end2.product > end1.product)
+    }
+
+    // Where it ends.
+    fn high_end(&self) -> ClippingPoints
+        ensures { result ≡ high_end self.now }
+    {
+        let (end1, end2) = (self.range1.last, self.range2.last);
+        self.clip_at(end1, end2, end2.product < end1.product)
+    }
+
+    // At the end of the second segment if that lies inside the first, or else at the end of the first.
+    fn clip_at(&self, end1: End, end2: End, is_inside: bool) -> ClippingPoints
+        ensures { result ≡ end_clip self.now end1 end2 is_inside }
+    {
+        let Ranges {
+            tangent1,
+            range1,
+            range2,
+        } = self;
+        if is_inside {
+            let p1 = range1.at(*tangent1, end2.product);
+            (p1, end2.point, 1, end2.feature)
+        } else {
+            let tangent2 = range2.last.point.sub(range2.first.point);
+            let p2 = range2.at(tangent2, end1.product);
+            (end1.point, p2, end1.feature, 1)
+        }
+    }
 }
 
 // Turned down with 2 where a coordinate may not be given, with 13 where the clip would divide zero by zero.
@@ -28,7 +150,7 @@ pub fn clip_segment_segment(
 ) -> Result<Option<(ClippingPoints, ClippingPoints)>, Refusal>
     ensures { told result ≡ clipping seg1 seg2 }
 {
-    if !(seg1.0.is_given() & seg1.1.is_given() & seg2.0.is_given() & seg2.1.is_given()) {
+    if !(seg1.is_given() & seg2.is_given()) {
         return Err(Refusal::NumberOutOfRange);
     }
     clip(seg1, seg2)
@@ -41,98 +163,12 @@ pub(crate) fn clip(
 ) -> Result<Option<(ClippingPoints, ClippingPoints)>, Refusal>
     ensures { told result ≡ clipped seg1 seg2 }
 {
-    // NOTE: no need to normalize the tangent.
-    let tangent1 = seg1.1.sub(seg1.0);
-    let sqnorm_tangent1 = tangent1.length_squared();
-    let range2 = ordered_range(seg1, tangent1, seg2);
-    if is_undefined(sqnorm_tangent1, range2) {
+    let ranges = Ranges::new(seg1, seg2);
+    if ranges.are_undefined() {
         return Err(Refusal::ZeroByZero);
     }
-    if (range2.low > sqnorm_tangent1) | (0.0 > range2.high) {
+    if ranges.are_apart() {
         return Ok(None);
     }
-    Ok(Some((
-        clip_low(seg1, tangent1, sqnorm_tangent1, range2),
-        clip_high(seg1, tangent1, sqnorm_tangent1, range2),
-    )))
-}
-
-// The range of the first segment is from 0 to its squared length, so it is never turned round.
-fn ordered_range(seg1: (Vector, Vector), tangent1: Vector, seg2: (Vector, Vector)) -> Range
-    ensures { result ≡ ordered seg1 tangent1 seg2 }
-{
-    let a = seg2.0.sub(seg1.0).dot(tangent1);
-    let b = seg2.1.sub(seg1.0).dot(tangent1);
-    if b < a {
-        Range {
-            low: b,
-            high: a,
-            first: seg2.1,
-            last: seg2.0,
-            first_feature: 2,
-            last_feature: 0,
-        }
-    } else {
-        Range {
-            low: a,
-            high: b,
-            first: seg2.0,
-            last: seg2.1,
-            first_feature: 0,
-            last_feature: 2,
-        }
-    }
-}
-
-// Both ends of the second segment lie at the same product, at an end of the first.
-fn is_undefined(sqnorm_tangent1: f64, range2: Range) -> bool
-    ensures { result ≡ undefined sqnorm_tangent1 range2 }
-{
-    (range2.low == range2.high) & ((range2.low == 0.0) | (range2.low == sqnorm_tangent1))
-}
-
-fn clip_low(
-    seg1: (Vector, Vector),
-    tangent1: Vector,
-    sqnorm_tangent1: f64,
-    range2: Range,
-) -> ClippingPoints
-    ensures { result ≡ low_end seg1 tangent1 sqnorm_tangent1 range2 }
-{
-    let length1 = sqnorm_tangent1 - 0.0;
-    let length2 = range2.high - range2.low;
-    if range2.low > 0.0 {
-        let bcoord = (range2.low - 0.0) / length1;
-        let p1 = seg1.0.add(tangent1.scale(bcoord));
-        (p1, range2.first, 1, range2.first_feature)
-    } else {
-        let bcoord = (0.0 - range2.low) / length2;
-        let p2 = range2
-            .first
-            .add(range2.last.sub(range2.first).scale(bcoord));
-        (seg1.0, p2, 0, 1)
-    }
-}
-
-fn clip_high(
-    seg1: (Vector, Vector),
-    tangent1: Vector,
-    sqnorm_tangent1: f64,
-    range2: Range,
-) -> ClippingPoints
-    ensures { result ≡ high_end seg1 tangent1 sqnorm_tangent1 range2 }
-{
-    let length1 = sqnorm_tangent1 - 0.0;
-    let length2 = range2.high - range2.low;
-    if range2.high < sqnorm_tangent1 {
-        let bcoord = (range2.high - 0.0) / length1;
-        let p1 = seg1.0.add(tangent1.scale(bcoord));
-        (p1, range2.last, 1, range2.last_feature)
-    } else {
-        let bcoord = (sqnorm_tangent1 - range2.low) / length2;
-        let p2 = range2
-            .first
-            .add(range2.last.sub(range2.first).scale(bcoord));
-        (seg1.1, p2, 2, 1)
-    }
+    Ok(Some((ranges.low_end(), ranges.high_end())))
 }

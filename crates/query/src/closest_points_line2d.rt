@@ -17,13 +17,14 @@ pub fn closest_points_line2d(
     ensures answer { told result ≡ meeting_answer edge1 edge2 }
     ensures exact { (l : Lines) → Ericson l }
 {
-    if !(edge1[0].is_given() & edge1[1].is_given() & edge2[0].is_given() & edge2[1].is_given()) {
+    if !(edge1.is_given() & edge2.is_given()) {
         return Err(Refusal::NumberOutOfRange);
     }
     Ok(meet(edge1, edge2))
 }
 
 // The same for coordinates that are known to be fit.
+#[tactic(auto, unfolding(crate::specs::Meeting::products, crate::specs::Meeting::parallel, crate::specs::Meeting::meeting))]
 pub(crate) fn meet(edge1: [Vector2; 2], edge2: [Vector2; 2]) -> Option<(f64, f64)>
     ensures { result ≡ meeting (products edge1 edge2) }
 {
@@ -33,7 +34,7 @@ pub(crate) fn meet(edge1: [Vector2; 2], edge2: [Vector2; 2]) -> Option<(f64, f64
     let a = dir1.length_squared();
     let e = dir2.length_squared();
     let f = dir2.dot(r);
-    if (a <= EPSILON) & (e <= EPSILON) {
+    if a <= EPSILON && e <= EPSILON {
         return Some((0.0, 0.0));
     }
     if a <= EPSILON {
@@ -48,7 +49,7 @@ pub(crate) fn meet(edge1: [Vector2; 2], edge2: [Vector2; 2]) -> Option<(f64, f64
     let bb = b * b;
     let denom = ae - bb;
     // Use absolute and ulps error to test collinearity.
-    if (denom <= EPSILON) | approx::are_bits_close(ae, bb) {
+    if denom <= EPSILON || approx::are_bits_close(ae, bb) {
         return None;
     }
     let s = (b * f - c * e) / denom;

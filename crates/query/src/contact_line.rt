@@ -1,5 +1,5 @@
 // A contact as a line of text: its seven numbers as bits and its two ids, in lowercase hexadecimal digits.
-ghost use Rattle.std.specs.Prelude.{◌≡◌, ℕ, ◌+◌, ◌<◌, ◌≤◌, [], ◌∷◌, ◌++◌, length, take, drop};
+ghost use Rattle.std.specs.Prelude.{◌≡◌, ◌-◌, ◌%◌, ◌<◌, ◌≤◌, [], ◌∷◌, ◌++◌, length};
 ghost use Rattle.math.specs.Refusals.{told};
 ghost use Rattle.query.specs.Contacts.{seen};
 ghost use Rattle.query.specs.Lines.{digit, hex, words, lining, lined};
@@ -10,6 +10,14 @@ use math::refusal::Refusal;
 // The bytes of a contact line, its newline among them.
 pub const CONTACT_LINE_LEN: usize = 137;
 
+// The bytes of a number's group: 16 digits and a space.
+const NUMBER_LEN: usize = 17;
+
+// The bytes of an id's group, and where the first one begins.
+const ID_LEN: usize = 9;
+
+const IDS_AT: usize = 7 * NUMBER_LEN;
+
 // The line into the first 137 bytes of `buffer`; a shorter one is turned down with 14, and is as before.
 pub fn contact_line<D>(contact: &TrackedContact<D>, buffer: &mut [u8]) -> Result<(), Refusal>
     ensures answer { told result ≡ lining buffer.old }
@@ -18,16 +26,20 @@ pub fn contact_line<D>(contact: &TrackedContact<D>, buffer: &mut [u8]) -> Result
     if buffer.len() < CONTACT_LINE_LEN {
         return Err(Refusal::BufferTooShort);
     }
-    let bits = number_bits(contact);
-    put_group(buffer, 0, 16, bits[0], b' ');
-    put_group(buffer, 17, 16, bits[1], b' ');
-    put_group(buffer, 34, 16, bits[2], b' ');
-    put_group(buffer, 51, 16, bits[3], b' ');
-    put_group(buffer, 68, 16, bits[4], b' ');
-    put_group(buffer, 85, 16, bits[5], b' ');
-    put_group(buffer, 102, 16, bits[6], b' ');
-    put_group(buffer, 119, 8, contact.fid1.0 as u64, b' ');
-    put_group(buffer, 128, 8, contact.fid2.0 as u64, b'\n');
+    for (i, bits) in number_bits(contact).iter().enumerate() {
+        let at = NUMBER_LEN * i;
+        put_group(&mut buffer[at..at + NUMBER_LEN], *bits, b' ');
+    }
+    put_group(
+        &mut buffer[IDS_AT..IDS_AT + ID_LEN],
+        contact.fid1.0.into(),
+        b' ',
+    );
+    put_group(
+        &mut buffer[IDS_AT + ID_LEN..CONTACT_LINE_LEN],
+        contact.fid2.0.into(),
+        b'\n',
+    );
     Ok(())
 }
 
@@ -47,27 +59,22 @@ fn number_bits<D>(contact: &TrackedContact<D>) -> [u64; 7]
     ]
 }
 
-// The lowest `digits` digits of `value`, highest first, and `end` after them, from `at` on.
-fn put_group(buffer: &mut [u8], at: usize, digits: usize, value: u64, end: u8)
-    requires few { digits ≤ 16 }
-    requires within { at + digits < length buffer.old }
-    ensures front { take (at + digits + 1) buffer.new ≡ take at buffer.old ++ (hex digits value ++ (end ∷ [])) }
-    ensures rest { (k : ℕ) → at + digits < k → drop k buffer.new ≡ drop k buffer.old }
+// The lowest digits of `value`, as many as the group has room for before its last byte, which is `end`.
+fn put_group(group: &mut [u8], value: u64, end: u8)
+    requires some { 0 < length group.old }
+    requires few { length group.old ≤ 17 }
+    ensures { group.new ≡ hex (length group.old - 1) value ++ (end ∷ []) }
 {
-    for i in 0..digits {
-        let nibble = (value >> (4 * (digits - 1 - i))) % 16;
-        buffer[at + i] = hex_digit(nibble as u8);
+    let digits = group.len() - 1;
+    for (i, digit) in group[..digits].iter_mut().enumerate() {
+        *digit = hex_digit(value >> (4 * (digits - 1 - i)));
     }
-    buffer[at + digits] = end;
+    group[digits] = end;
 }
 
-fn hex_digit(nibble: u8) -> u8
-    requires { nibble < 16 }
-    ensures { result ≡ digit nibble }
+// The lowest hexadecimal digit of `value`.
+pub fn hex_digit(value: u64) -> u8
+    ensures { result ≡ digit (value % 16) }
 {
-    if nibble < 10 {
-        b'0' + nibble
-    } else {
-        b'a' + (nibble - 10)
-    }
+    char::from_digit((value % 16) as u32, 16).unwrap() as u8
 }

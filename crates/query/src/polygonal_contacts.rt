@@ -21,6 +21,7 @@ use shape::feature_id::PackedFeatureId;
 use shape::polygonal_feature3d::PolygonalFeature;
 
 // The contacts of two edges: none, or one at each end of the part that they share. Points, axis and pose are in the frame of `face1`.
+#[tactic(auto, unfolding(crate::specs::Edges::framed, crate::specs::Edges::edging))]
 pub fn contacts_edge_edge<D: ContactData>(
     pos12: &Pose,
     face1: &PolygonalFeature,
@@ -39,48 +40,89 @@ pub fn contacts_edge_edge<D: ContactData>(
     if !sep_axis1.is_unit() {
         return Err(Refusal::AxisNotUnit);
     }
-    clip_edges(pos12, face1, sep_axis1, face2, flipped)
+    let pair = EdgePair {
+        pos12,
+        face1,
+        sep_axis1,
+        face2,
+        flipped,
+    };
+    pair.contacts()
 }
 
-// The same for a pose and an axis that are known to be fit.
-fn clip_edges<D: ContactData>(
-    pos12: &Pose,
-    face1: &PolygonalFeature,
+// Two edges to be met, with a pose and an axis that are known to be fit.
+#[derive(Drop)]
+struct EdgePair<'a> {
+    pos12: &'a Pose,
+    face1: &'a PolygonalFeature,
     sep_axis1: Vector,
-    face2: &PolygonalFeature,
+    face2: &'a PolygonalFeature,
     flipped: bool,
-) -> Result<Option<(TrackedContact<D>, TrackedContact<D>)>, Refusal>
-    requires { framed pos12.now sep_axis1 ≡ true }
-    ensures { told_as seen_both result ≡ edge_rule flipped D.ContactData.initial pos12.now (fields face1.now) sep_axis1 (fields face2.now) }
-{
-    let edge1 = (face1.vertices[0], face1.vertices[1]);
-    let edge2 = (
-        pos12.transform_point(face2.vertices[0]),
-        pos12.transform_point(face2.vertices[1]),
-    );
-    // The tangents are taken in the plane through the origin that has `sep_axis1` as its normal.
-    let basis = wops::orthonormal_basis(sep_axis1);
-    let tangent1 = projected_tangent(basis, edge1);
-    let tangent2 = projected_tangent(basis, edge2);
-    if are_crossing(tangent1, tangent2) {
-        return Err(Refusal::EdgesNotParallel);
+    ghost fit: { framed pos12.now sep_axis1 ≡ true },
+}
+
+impl EdgePair<'_> {
+    ghost use Rattle.query.specs.Contacts.{seen, seen_both};
+    ghost use Rattle.query.specs.Edges.{plane_basis, crossing, edge_tangent, clip_contact, edge_rule};
+
+    #[tactic(auto, unfolding(crate::specs::Edges::edge_rule))]
+    fn contacts<D: ContactData>(
+        &self,
+    ) -> Result<Option<(TrackedContact<D>, TrackedContact<D>)>, Refusal>
+        ensures { told_as seen_both result ≡ edge_rule self.now.flipped D.ContactData.initial self.now.pos12.now (fields self.now.face1.now) self.now.sep_axis1 (fields self.now.face2.now) }
+    {
+        let edge1 = (self.face1.vertices[0], self.face1.vertices[1]);
+        let edge2 = (
+            self.pos12.transform_point(self.face2.vertices[0]),
+            self.pos12.transform_point(self.face2.vertices[1]),
+        );
+        // The tangents are taken in the plane through the origin that has `sep_axis1` as its normal.
+        let basis = wops::orthonormal_basis(self.sep_axis1);
+        if are_crossing(
+            projected_tangent(basis, edge1),
+            projected_tangent(basis, edge2),
+        ) {
+            return Err(Refusal::EdgesNotParallel);
+        }
+        let clips = clip_segment_segment::clip(edge1, edge2)?;
+        Ok(clips.map(
+            |(ca, cb)|
+                requires first { clip_near ca ≡ true }
+                requires last { clip_near cb ≡ true }
+            { (self.contact_at(ca), self.contact_at(cb)) },
+        ))
     }
-    match clip_segment_segment::clip(edge1, edge2) {
-        Err(refusal) => Err(refusal),
-        Ok(None) => Ok(None),
-        Ok(Some((low, high))) => Ok(Some((
-            contact_at(pos12, face1, sep_axis1, face2, flipped, low),
-            contact_at(pos12, face1, sep_axis1, face2, flipped, high),
-        ))),
+
+    #[tactic(auto, using(crate::proofs::ContactMagnitude::clip_bounded), unfolding(crate::specs::Edges::clip_contact))]
+    fn contact_at<D: ContactData>(&self, clip: ClippingPoints) -> TrackedContact<D>
+        requires { clip_near clip ≡ true }
+        ensures { seen result ≡ clip_contact self.now.flipped D.ContactData.initial self.now.pos12.now (fields self.now.face1.now) self.now.sep_axis1 (fields self.now.face2.now) clip }
+    {
+        // The id of an edge's first vertex, of the edge, or of its second vertex.
+        let feature_at = |face: &PolygonalFeature, id: usize| match id {
+            0 => face.vids[0],
+            1 => face.eids[0],
+            _ => face.vids[1],
+        };
+        TrackedContact::flipped(
+            clip.0,
+            self.pos12.inverse_transform_point(clip.1),
+            feature_at(self.face1, clip.2),
+            feature_at(self.face2, clip.3),
+            clip.1.sub(clip.0).dot(self.sep_axis1),
+            self.flipped,
+        )
     }
 }
 
+#[tactic(auto, unfolding(crate::specs::Edges::projected))]
 fn project(basis: (Vector, Vector), v: Vector) -> Vector2
     ensures { result ≡ projected basis v }
 {
     Vector2::new(v.dot(basis.0), v.dot(basis.1))
 }
 
+#[tactic(auto, unfolding(crate::specs::Edges::edge_tangent))]
 fn projected_tangent(basis: (Vector, Vector), edge: (Vector, Vector)) -> Option<Vector2>
     ensures { result ≡ edge_tangent basis edge }
 {
@@ -93,41 +135,7 @@ fn projected_tangent(basis: (Vector, Vector), edge: (Vector, Vector)) -> Option<
 fn are_crossing(tangent1: Option<Vector2>, tangent2: Option<Vector2>) -> bool
     ensures { result ≡ crossing tangent1 tangent2 }
 {
-    match (tangent1, tangent2) {
-        (Some(t1), Some(t2)) => t1.dot(t2).abs() < COS_FRAC_PI_8,
-        _ => false,
-    }
-}
-
-fn contact_at<D: ContactData>(
-    pos12: &Pose,
-    face1: &PolygonalFeature,
-    sep_axis1: Vector,
-    face2: &PolygonalFeature,
-    flipped: bool,
-    clip: ClippingPoints,
-) -> TrackedContact<D>
-    requires fit { framed pos12.now sep_axis1 ≡ true }
-    requires near { clip_near clip ≡ true }
-    ensures { seen result ≡ clip_contact flipped D.ContactData.initial pos12.now (fields face1.now) sep_axis1 (fields face2.now) clip }
-{
-    TrackedContact::flipped(
-        clip.0,
-        pos12.inverse_transform_point(clip.1),
-        feature_at_clip(face1, clip.2),
-        feature_at_clip(face2, clip.3),
-        clip.1.sub(clip.0).dot(sep_axis1),
-        flipped,
-    )
-}
-
-// The id of an edge's first vertex, of the edge, or of its second vertex.
-fn feature_at_clip(face: &PolygonalFeature, id: usize) -> PackedFeatureId
-    ensures { result ≡ feature_at (fields face.now) id }
-{
-    match id {
-        0 => face.vids[0],
-        1 => face.eids[0],
-        _ => face.vids[1],
-    }
+    tangent1
+        .zip(tangent2)
+        .is_some_and(|(t1, t2)| t1.dot(t2).abs() < COS_FRAC_PI_8)
 }
