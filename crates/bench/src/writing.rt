@@ -7,6 +7,7 @@ ghost use Rattle.bench.specs.Texts.{Wrote, Appended, number_text, id_text, vecto
 use crate::answer::{Failure, Reply};
 use math::vector::Vector;
 use query::clip_segment_segment::ClippingPoints;
+use query::contact_line;
 use shape::feature_id::PackedFeatureId;
 use shape::polygonal_feature3d::FeatureRow;
 use std::alloc::AllocError;
@@ -226,8 +227,8 @@ fn write_hex(out: &mut String, digits: usize, value: u64) -> Result<(), AllocErr
     ensures { Appended out.old (hex digits value) (is_ok result) out.new }
 {
     for i in 0..digits {
-        let nibble = (value >> (4 * (digits - 1 - i))) % 16;
-        put_char(out, hex_digit(nibble as u32))?;
+        let digit = contact_line::hex_digit(value >> (4 * (digits - 1 - i)));
+        put_char(out, digit as char)?;
     }
     Ok(())
 }
@@ -238,12 +239,4 @@ fn put_char(out: &mut String, c: char) -> Result<(), AllocError>
     ensures { Appended out.old (c ∷ []) (is_ok result) out.new }
 {
     out.push(c)
-}
-
-fn hex_digit(nibble: u32) -> char
-    requires { nibble < 16 }
-    ensures value { result ≡ digit nibble }
-    ensures bound { result < 128 }
-{
-    char::from_digit(nibble, 16).unwrap()
 }
