@@ -1,6 +1,6 @@
 // Answers written as text, at the end of what stands there, which stays. There is an error only where the string had too little room for the text.
-ghost use Rattle.std.specs.Prelude.{◌≡◌, ℕ, ◌<◌, ◌≤◌, [], ◌∷◌, ◌++◌, List, is_ok, string_bytes, decimal, OnOk};
-ghost use Rattle.query.specs.Lines.{digit, hex};
+ghost use Rattle.std.specs.Prelude.{◌≡◌, ℕ, ◌≤◌, ◌++◌, List, is_ok, string_bytes, decimal, OnOk};
+ghost use Rattle.query.specs.Lines.{hex};
 ghost use Rattle.bench.specs.Answers.{told_answer, told_reply, told_failure};
 ghost use Rattle.bench.specs.Texts.{Wrote, Appended, number_text, id_text, vector_text, row_text, clip_text, clip_pair_text, place_pair_text, each_text, option_text, written};
 
@@ -228,15 +228,7 @@ fn write_hex(out: &mut String, digits: usize, value: u64) -> Result<(), AllocErr
 {
     for i in 0..digits {
         let digit = contact_line::hex_digit(value >> (4 * (digits - 1 - i)));
-        put_char(out, digit as char)?;
+        out.push(char::from(digit))?;
     }
     Ok(())
-}
-
-// A character that is one byte.
-fn put_char(out: &mut String, c: char) -> Result<(), AllocError>
-    requires { c < 128 }
-    ensures { Appended out.old (c ∷ []) (is_ok result) out.new }
-{
-    out.push(c)
 }
