@@ -8,7 +8,7 @@ use script::fault::Fault;
 use shape::feature_id::PackedFeatureId;
 use shape::polygonal_feature3d::FeatureRow;
 
-#[derive(Clone, Copy)]
+#[derive(Clone, Copy, Debug, PartialEq)]
 pub enum Reply {
     Nothing,
     Done,

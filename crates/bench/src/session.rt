@@ -17,13 +17,6 @@ use shape::feature_id::PackedFeatureId;
 use shape::polygonal_feature_map::PolygonalFeatureMap;
 use shape::polygonal_feature3d::{FeatureRow, PolygonalFeature};
 
-fn place_of(which: Which) -> usize
-    ensures value { result ≡ place which }
-    ensures bound { result < 2 }
-{
-    which as usize
-}
-
 #[derive(Clone, Copy)]
 pub enum Solid {
     Cylinder(Cylinder),
@@ -39,8 +32,7 @@ pub struct Session {
 
 impl Session {
     ghost use Rattle.std.specs.Prelude.{true, Some};
-    ghost use Rattle.math.specs.Refusals.{told};
-    ghost use Rattle.shape.specs.Features.{fields, making, made};
+    ghost use Rattle.shape.specs.Features.{making, made};
     ghost use Rattle.shape.specs.Moves.{moving, moved_or_kept};
     ghost use Rattle.script.specs.Lines.{silent};
     ghost use Rattle.bench.specs.Answers.{told_answer, replied, Done, Nothing};
@@ -167,4 +159,11 @@ impl PolygonalFeatureMap for Solid {
             Solid::Cuboid(cuboid) => cuboid.local_support_feature(dir, hint, out_feature),
         }
     }
+}
+
+fn place_of(which: Which) -> usize
+    ensures value { result ≡ place which }
+    ensures bound { result < 2 }
+{
+    which as usize
 }

@@ -1,12 +1,13 @@
 // Answers written as text, at the end of what stands there, which stays. There is an error only where the string had too little room for the text.
-ghost use Rattle.std.specs.Prelude.{◌≡◌, ℕ, ◌<◌, ◌≤◌, [], ◌∷◌, ◌++◌, List, is_ok, string_bytes, decimal, OnOk};
-ghost use Rattle.query.specs.Lines.{digit, hex};
+ghost use Rattle.std.specs.Prelude.{◌≡◌, ℕ, ◌≤◌, ◌++◌, List, is_ok, string_bytes, decimal, OnOk};
+ghost use Rattle.query.specs.Lines.{hex};
 ghost use Rattle.bench.specs.Answers.{told_answer, told_reply, told_failure};
 ghost use Rattle.bench.specs.Texts.{Wrote, Appended, number_text, id_text, vector_text, row_text, clip_text, clip_pair_text, place_pair_text, each_text, option_text, written};
 
 use crate::answer::{Failure, Reply};
 use math::vector::Vector;
 use query::clip_segment_segment::ClippingPoints;
+use query::contact_line;
 use shape::feature_id::PackedFeatureId;
 use shape::polygonal_feature3d::FeatureRow;
 use std::alloc::AllocError;
@@ -226,24 +227,8 @@ fn write_hex(out: &mut String, digits: usize, value: u64) -> Result<(), AllocErr
     ensures { Appended out.old (hex digits value) (is_ok result) out.new }
 {
     for i in 0..digits {
-        let nibble = (value >> (4 * (digits - 1 - i))) % 16;
-        put_char(out, hex_digit(nibble as u32))?;
+        let digit = contact_line::hex_digit(value >> (4 * (digits - 1 - i)));
+        out.push(char::from(digit))?;
     }
     Ok(())
-}
-
-// A character that is one byte.
-fn put_char(out: &mut String, c: char) -> Result<(), AllocError>
-    requires { c < 128 }
-    ensures { Appended out.old (c ∷ []) (is_ok result) out.new }
-{
-    out.push(c)
-}
-
-fn hex_digit(nibble: u32) -> char
-    requires { nibble < 16 }
-    ensures value { result ≡ digit nibble }
-    ensures bound { result < 128 }
-{
-    char::from_digit(nibble, 16).unwrap()
 }

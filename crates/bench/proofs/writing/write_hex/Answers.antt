@@ -5,9 +5,9 @@ use Rattle.query.specs.Lines.{hex}
 use Rattle.std.proofs.lemmas.Grind.{common_steps}
 use Rattle.bench.proofs.writing.write_hex.Goals as goal
 
-pub returns-in_err-put_char : goal.returns-in_err-put_char
+pub returns-in_err-push : goal.returns-in_err-push
 unfolding hex
-returns-in_err-put_char c =
+returns-in_err-push c =
     let n = c.args.digits in
     let v = c.args.value in
     let e = length_hex_front n v c.loop-i.i in
