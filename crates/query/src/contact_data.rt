@@ -1,19 +1,13 @@
 // What a contact carries along: any kind of plain datum with one initial value.
 ghost use Rattle.std.specs.Prelude.{◌≡◌};
-ghost use Rattle.query.specs.Data.{touch_initial, touch_only, tally_initial, tally_only};
+ghost use Rattle.query.specs.Data.{touch_initial, tally_initial};
 
-pub trait ContactData: Copy + Default {
+pub trait ContactData: Copy {
     // The datum of every new contact.
     ghost initial: { Self };
 
     fn initial_datum() -> Self
-        ensures { result ≡ initial }
-    {
-        Self::default()
-    }
-
-    // No default is another.
-    ghost only: { (x : Self) → Self.is_default x → x ≡ initial };
+        ensures { result ≡ initial };
 }
 
 // Two f64 kept as their bits, whatever they are.
@@ -26,7 +20,9 @@ pub struct TouchRecord {
 impl ContactData for TouchRecord {
     ghost initial = { touch_initial };
 
-    ghost only = { touch_only };
+    fn initial_datum() -> TouchRecord {
+        TouchRecord::default()
+    }
 }
 
 #[derive(Clone, Copy, Debug, Default, PartialEq, Eq)]
@@ -38,5 +34,7 @@ pub struct ServiceTally {
 impl ContactData for ServiceTally {
     ghost initial = { tally_initial };
 
-    ghost only = { tally_only };
+    fn initial_datum() -> ServiceTally {
+        ServiceTally::default()
+    }
 }
