@@ -12,7 +12,7 @@ use math::wops;
 
 mod face;
 
-#[derive(Clone, Copy)]
+#[derive(Clone, Copy, Debug, PartialEq)]
 pub struct Cuboid {
     pub half_extents: Vector,
     ghost sized: { are_sizes half_extents ≡ true },
