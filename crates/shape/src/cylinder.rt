@@ -5,7 +5,7 @@ ghost use Rattle.shape.specs.Sizes.{is_size};
 use math::limits::Given;
 use math::refusal::Refusal;
 
-#[derive(Clone, Copy)]
+#[derive(Clone, Copy, Debug, PartialEq)]
 pub struct Cylinder {
     pub half_height: f64,
     pub radius: f64,

@@ -12,6 +12,7 @@ pub enum FeatureKind {
     Face,
 }
 
+// The cases are those of the Rust crate that is ported.
 #[derive(Clone, Copy, Debug, PartialEq, Eq)]
 pub enum FeatureId {
     Vertex(u32),

@@ -22,7 +22,7 @@ pub struct FeatureRow {
     pub num_vertices: usize,
 }
 
-#[derive(Clone, Copy)]
+#[derive(Clone, Copy, Debug, PartialEq)]
 pub struct PolygonalFeature {
     pub vertices: [Vector; 4],
     pub vids: [PackedFeatureId; 4],
@@ -33,6 +33,7 @@ pub struct PolygonalFeature {
     ghost few: { num_vertices ≤ 4 },
 }
 
+// The coordinates are named, so the test is written out for each.
 #[tactic(auto, unfolding(math::specs::Magnitude::within, math::specs::Magnitude::vector_within))]
 fn is_near(v: Vector) -> bool
     ensures { result ≡ vector_within vertex_limit v }

@@ -116,6 +116,7 @@ impl Cylinder {
     {
         let dir2 = azimuth.along;
         let y = wops::copy_sign_to(dir.y, self.half_height);
+        // Each product is taken as the Rust crate that is ported takes it.
         let vertices = [
             Vector::new(dir2.x * self.radius, y, dir2.y * self.radius),
             Vector::new(-dir2.y * self.radius, y, dir2.x * self.radius),
