@@ -71,6 +71,12 @@ at_most_of_not_lt false x true y h = tt
 at_most_of_not_lt true x false y h = let z = ltb-false 0 (x + y) h in (omega arith, omega arith)
 at_most_of_not_lt true x true y h = ltb-false y x h
 
+at_most_of_lt : (s : Bool) (x : ℕ) (t : Bool) (y : ℕ) → below s x t y ≡ true → AtMost s x t y
+at_most_of_lt false x false y h = let l = ltb-true x y h in omega arith
+at_most_of_lt false x true y h = no h
+at_most_of_lt true x false y h = tt
+at_most_of_lt true x true y h = let l = ltb-true y x h in omega arith
+
 -- no distance, so level
 level_of_dist : (s : Bool) (x : ℕ) (t : Bool) (y : ℕ) → dist t y s x ≡ 0 → level s x t y ≡ true
 unfolding dist absdiff

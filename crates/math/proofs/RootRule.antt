@@ -299,6 +299,9 @@ scaled n (negsuc k) F =
 
 -- ---- the rule
 
+halves : (l : ℕ) → (l - 105) / 2 * 2 ≤ l - 105
+halves l = omega arith
+
 module _ (n : ℕ) (e : ℤ) (F : T (fits binary64 (fin false (suc n) e))) where
   abbrev N : ℕ
   N = suc n * up e * 2 ^ 4542 / down e
