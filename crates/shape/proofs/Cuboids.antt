@@ -1,5 +1,5 @@
 -- The face of a cuboid: its axis is one of three, its side one of two, its corners lie near.
-use Rattle.std.proofs.Common.{◌≡◌, ℕ, zero, suc, ◌+◌, ◌*◌, ◌<◌, Bool, true, false, cond, not, ◌&&◌, eqb, ◌⊎◌, List, get_or, ℤ, refl, ap, ◌∙◌, subst, inl, inr, arith}
+use Rattle.std.proofs.Common.{◌≡◌, ℕ, ◌+◌, ◌*◌, ◌<◌, Bool, true, false, cond, not, ◌&&◌, eqb, ◌⊎◌, List, get_or, ℤ, refl, ap, ◌∙◌, subst, inl, inr, arith}
 use lib.Ieee.{Float, binary64, nan, inf, fin, of_bits, is_nan, lt, le, neg, mul, round}
 use Rattle.std.specs.Float.{float_with_sign, is_sign_negative}
 use Rattle.std.proofs.lemmas.Bool.{and_parts, and_from, cond_both}
@@ -20,9 +20,10 @@ use Rattle.shape.specs.declared.cuboid.face.Side.{Side}
 use Rattle.shape.specs.declared.cuboid.face.Side.TheVariants.{Negative, Positive}
 use Rattle.shape.specs.Features.{unknown}
 use Rattle.shape.specs.Ids.{packed, four_codes, vertex_header, edge_header, face_header}
-use Rattle.shape.specs.Nearness.{vertex_limit, vertex_at, all_within, near_all}
+use Rattle.shape.specs.Nearness.{vertex_limit, vertex_at, near_all}
 use Rattle.shape.specs.Sizes.{is_size, are_sizes}
-use Rattle.shape.proofs.Near.{given_near, size_given, point}
+use Rattle.shape.proofs.Cases.{of_three, of_four}
+use Rattle.shape.proofs.Near.{given_near, size_given, point, from_four}
 
 pub axis_below : (dir : Vector) → main_axis_of dir < 3
 unfolding largest_place
@@ -65,26 +66,38 @@ limit_by_one = refl
 reach : (h d : Float) → is_size h ≡ true → within vertex_limit (h ⊗ signed d one) ≡ true
 reach h d H = given_near _ (subst (λ (b : Float). within b (h ⊗ signed d one) ≡ true) limit_by_one (mul_within limit one h (signed d one) limit_bound one_bound (size_given h H) (sign_within (is_sign_negative d))))
 
-pub face_near : (he : Vector) (axis : ℕ) (d : Float) → are_sizes he ≡ true → near_all (face_vertices_of he axis (signed d one)) ≡ true
-unfolding are_sizes face_vertices_of all_within
-face_near he axis d H =
+-- each half extent
+record Sized (he : Vector) : Type 0 where
+  x : is_size he.x ≡ true
+  y : is_size he.y ≡ true
+  z : is_size he.z ≡ true
+
+sized_each : (he : Vector) → are_sizes he ≡ true → Sized he
+unfolding are_sizes
+sized_each he H =
     let xyz = and_parts _ _ H in
     let xy = and_parts _ _ xyz.0 in
-    let x = given_near _ (size_given he.x xy.0) in
-    let y = given_near _ (size_given he.y xy.1) in
-    let z = given_near _ (size_given he.z xyz.1) in
+    record { x = xy.0; y = xy.1; z = xyz.1 }
+
+pub face_near : (he : Vector) (axis : ℕ) (d : Float) → are_sizes he ≡ true → near_all (face_vertices_of he axis (signed d one)) ≡ true
+unfolding face_vertices_of
+face_near he axis d H =
+    let s = sized_each he H in
+    let x = given_near _ (size_given he.x s.x) in
+    let y = given_near _ (size_given he.y s.y) in
+    let z = given_near _ (size_given he.z s.z) in
     let x' = neg_within vertex_limit he.x ∙ x in
     let y' = neg_within vertex_limit he.y ∙ y in
     let z' = neg_within vertex_limit he.z ∙ z in
-    let sx = reach he.x d xy.0 in
-    let sy = reach he.y d xy.1 in
-    let sz = reach he.z d xyz.1 in
+    let sx = reach he.x d s.x in
+    let sy = reach he.y d s.y in
+    let sz = reach he.z d s.z in
     let near : List Vector → Type 0 = λ vs. near_all vs ≡ true in
     cond_both (eqb axis 0) _ _ near
-    (λ h. and_from _ _ (and_from _ _ (and_from _ _ (point _ _ _ sx y z) (point _ _ _ sx y' z)) (point _ _ _ sx y' z')) (point _ _ _ sx y z'))
+    (λ h. from_four vertex_limit _ (point _ _ _ sx y z) (point _ _ _ sx y' z) (point _ _ _ sx y' z') (point _ _ _ sx y z'))
     (λ h. cond_both (eqb axis 1) _ _ near
-    (λ k. and_from _ _ (and_from _ _ (and_from _ _ (point _ _ _ x sy z) (point _ _ _ x' sy z)) (point _ _ _ x' sy z')) (point _ _ _ x sy z'))
-    (λ k. and_from _ _ (and_from _ _ (and_from _ _ (point _ _ _ x y sz) (point _ _ _ x y' sz)) (point _ _ _ x' y' sz)) (point _ _ _ x' y sz)))
+    (λ k. from_four vertex_limit _ (point _ _ _ x sy z) (point _ _ _ x' sy z) (point _ _ _ x' sy z') (point _ _ _ x sy z'))
+    (λ k. from_four vertex_limit _ (point _ _ _ x y sz) (point _ _ _ x y' sz) (point _ _ _ x' y' sz) (point _ _ _ x' y sz)))
 
 -- each half extent is in range, and above 0
 pub sized : (he : Vector) → vector_within limit he ≡ true → (lt F.zero he.x && lt F.zero he.y && lt F.zero he.z) ≡ true → are_sizes he ≡ true
@@ -139,27 +152,12 @@ unfolding is_size
 put_sign true h H = opposite_sign h (and_parts _ _ H).1
 put_sign false h H = above_positive h (and_parts _ _ H).1
 
-pub past : (k : ℕ) → suc (suc (suc k)) < 3 → ⊥
-past k l = omega arith
-
-pub past_four : (k : ℕ) → suc (suc (suc (suc k))) < 4 → ⊥
-past_four k l = omega arith
-
 abbrev bit : Bool → ℕ
 bit b = cond b 1 0
 
 module _ (he : Vector) (H : are_sizes he ≡ true) (sign : Float) (side : ℕ) where
-  sized_x : is_size he.x ≡ true
-  unfolding are_sizes
-  sized_x = (and_parts _ _ (and_parts _ _ H).0).0
-
-  sized_y : is_size he.y ≡ true
-  unfolding are_sizes
-  sized_y = (and_parts _ _ (and_parts _ _ H).0).1
-
-  sized_z : is_size he.z ≡ true
-  unfolding are_sizes
-  sized_z = (and_parts _ _ H).1
+  each : Sized he
+  each = sized_each he H
 
   on_x : Bool → Bool → Vector
   on_x b c = record { x = he.x ⊗ sign; y = put b he.y; z = put c he.z }
@@ -167,14 +165,13 @@ module _ (he : Vector) (H : are_sizes he ≡ true) (sign : Float) (side : ℕ) w
   at_x : (b c : Bool) (n : ℕ) → n ≡ 4 * side + 2 * bit b + bit c → FaceCorner he 0 sign side (on_x b c) n
   unfolding on_x
   at_x b c n e =
-      let p = put_sign b he.y sized_y in
-      let q = put_sign c he.z sized_z in
-      record { across = refl; along = others; bits = cc }
-    where
-      others : (k : ℕ) → k < 3 → (k ≡ 0 → ⊥) → PlusOrMinus (coordinate he k) (coordinate (on_x b c) k)
-      others zero l m = absurd (m refl)
-      others (suc zero) l m = put_either b he.y
-      others (suc (suc k)) l m = put_either c he.z
+      let p = put_sign b he.y each.y in
+      let q = put_sign c he.z each.z in
+      record {
+        across = refl;
+        along = of_three (λ k. (k ≡ 0 → ⊥) → PlusOrMinus (coordinate he k) (coordinate (on_x b c) k)) (λ m. absurd (m refl)) (λ m. put_either b he.y) (λ m. put_either c he.z);
+        bits = cc;
+      }
 
   on_y : Bool → Bool → Vector
   on_y b c = record { x = put b he.x; y = he.y ⊗ sign; z = put c he.z }
@@ -182,14 +179,13 @@ module _ (he : Vector) (H : are_sizes he ≡ true) (sign : Float) (side : ℕ) w
   at_y : (b c : Bool) (n : ℕ) → n ≡ 4 * bit b + 2 * side + bit c → FaceCorner he 1 sign side (on_y b c) n
   unfolding on_y
   at_y b c n e =
-      let p = put_sign b he.x sized_x in
-      let q = put_sign c he.z sized_z in
-      record { across = refl; along = others; bits = cc }
-    where
-      others : (k : ℕ) → k < 3 → (k ≡ 1 → ⊥) → PlusOrMinus (coordinate he k) (coordinate (on_y b c) k)
-      others zero l m = put_either b he.x
-      others (suc zero) l m = absurd (m refl)
-      others (suc (suc k)) l m = put_either c he.z
+      let p = put_sign b he.x each.x in
+      let q = put_sign c he.z each.z in
+      record {
+        across = refl;
+        along = of_three (λ k. (k ≡ 1 → ⊥) → PlusOrMinus (coordinate he k) (coordinate (on_y b c) k)) (λ m. put_either b he.x) (λ m. absurd (m refl)) (λ m. put_either c he.z);
+        bits = cc;
+      }
 
   on_z : Bool → Bool → Vector
   on_z b c = record { x = put b he.x; y = put c he.y; z = he.z ⊗ sign }
@@ -197,34 +193,27 @@ module _ (he : Vector) (H : are_sizes he ≡ true) (sign : Float) (side : ℕ) w
   at_z : (b c : Bool) (n : ℕ) → n ≡ 4 * bit b + 2 * bit c + side → FaceCorner he 2 sign side (on_z b c) n
   unfolding on_z
   at_z b c n e =
-      let p = put_sign b he.x sized_x in
-      let q = put_sign c he.y sized_y in
-      record { across = refl; along = others; bits = cc }
-    where
-      others : (k : ℕ) → k < 3 → (k ≡ 2 → ⊥) → PlusOrMinus (coordinate he k) (coordinate (on_z b c) k)
-      others zero l m = put_either b he.x
-      others (suc zero) l m = put_either c he.y
-      others (suc (suc zero)) l m = absurd (m refl)
-      others (suc (suc (suc k))) l m = absurd (past k l)
+      let p = put_sign b he.x each.x in
+      let q = put_sign c he.y each.y in
+      record {
+        across = refl;
+        along = of_three (λ k. (k ≡ 2 → ⊥) → PlusOrMinus (coordinate he k) (coordinate (on_z b c) k)) (λ m. put_either b he.x) (λ m. put_either c he.y) (λ m. absurd (m refl));
+        bits = cc;
+      }
 
   pub face_corner : (axis : ℕ) → axis < 3 → (i : ℕ) → i < 4 → FaceCorner he axis sign side (vertex_at (face_vertices_of he axis sign) i) (corner_at axis side i)
   unfolding face_vertices_of face_corners on_x on_y on_z
-  face_corner zero a zero l = at_x false false _ (omega arith)
-  face_corner zero a (suc zero) l = at_x true false _ (omega arith)
-  face_corner zero a (suc (suc zero)) l = at_x true true _ (omega arith)
-  face_corner zero a (suc (suc (suc zero))) l = at_x false true _ (omega arith)
-  face_corner zero a (suc (suc (suc (suc i)))) l = absurd (past_four i l)
-  face_corner (suc zero) a zero l = at_y false false _ (omega arith)
-  face_corner (suc zero) a (suc zero) l = at_y true false _ (omega arith)
-  face_corner (suc zero) a (suc (suc zero)) l = at_y true true _ (omega arith)
-  face_corner (suc zero) a (suc (suc (suc zero))) l = at_y false true _ (omega arith)
-  face_corner (suc zero) a (suc (suc (suc (suc i)))) l = absurd (past_four i l)
-  face_corner (suc (suc zero)) a zero l = at_z false false _ (omega arith)
-  face_corner (suc (suc zero)) a (suc zero) l = at_z false true _ (omega arith)
-  face_corner (suc (suc zero)) a (suc (suc zero)) l = at_z true true _ (omega arith)
-  face_corner (suc (suc zero)) a (suc (suc (suc zero))) l = at_z true false _ (omega arith)
-  face_corner (suc (suc zero)) a (suc (suc (suc (suc i)))) l = absurd (past_four i l)
-  face_corner (suc (suc (suc axis))) a i l = absurd (past axis a)
+  face_corner =
+      of_three Corners
+      (of_four (Corner 0) (at_x false false _ (omega arith)) (at_x true false _ (omega arith)) (at_x true true _ (omega arith)) (at_x false true _ (omega arith)))
+      (of_four (Corner 1) (at_y false false _ (omega arith)) (at_y true false _ (omega arith)) (at_y true true _ (omega arith)) (at_y false true _ (omega arith)))
+      (of_four (Corner 2) (at_z false false _ (omega arith)) (at_z false true _ (omega arith)) (at_z true true _ (omega arith)) (at_z true false _ (omega arith)))
+    where
+      Corner : ℕ → ℕ → Type 0
+      Corner axis i = FaceCorner he axis sign side (vertex_at (face_vertices_of he axis sign) i) (corner_at axis side i)
+
+      Corners : ℕ → Type 0
+      Corners axis = (i : ℕ) → i < 4 → Corner axis i
 
 pub around : (he dir : Vector) → are_sizes he ≡ true → AroundFace he dir (cuboid_fields he dir).vertices
 unfolding cuboid_fields
@@ -261,45 +250,44 @@ across_sign : (h d : Float) → is_size h ≡ true → is_sign_negative (h ⊗ s
 across_sign h d H = finite_sign h d (size_given h H) (above_zero h H)
 
 face_sign : (he : Vector) (d : Float) (axis : ℕ) → are_sizes he ≡ true → axis < 3 → is_sign_negative (coordinate he axis ⊗ signed d one) ≡ is_sign_negative d
-unfolding are_sizes
-face_sign he d zero H a = across_sign he.x d (and_parts _ _ (and_parts _ _ H).0).0
-face_sign he d (suc zero) H a = across_sign he.y d (and_parts _ _ (and_parts _ _ H).0).1
-face_sign he d (suc (suc axis)) H a = across_sign he.z d (and_parts _ _ H).1
+face_sign he d axis H =
+    let s = sized_each he H in
+    of_three (λ axis. is_sign_negative (coordinate he axis ⊗ signed d one) ≡ is_sign_negative d) (across_sign he.x d s.x) (across_sign he.y d s.y) (across_sign he.z d s.z) axis
 
 neighbours : (axis side : ℕ) → axis < 3 → (i : ℕ) → i < 4 → Neighbours axis (corner_at axis side i) (corner_at axis side (next i))
 unfolding face_corners
-neighbours zero s a zero l = record { k = 1; other = λ e. omega arith; apart = inl (omega arith) }
-neighbours zero s a (suc zero) l = record { k = 2; other = λ e. omega arith; apart = inl (omega arith) }
-neighbours zero s a (suc (suc zero)) l = record { k = 1; other = λ e. omega arith; apart = inr (omega arith) }
-neighbours zero s a (suc (suc (suc zero))) l = record { k = 2; other = λ e. omega arith; apart = inr (omega arith) }
-neighbours zero s a (suc (suc (suc (suc i)))) l = absurd (past_four i l)
-neighbours (suc zero) s a zero l = record { k = 0; other = λ e. omega arith; apart = inl (omega arith) }
-neighbours (suc zero) s a (suc zero) l = record { k = 2; other = λ e. omega arith; apart = inl (omega arith) }
-neighbours (suc zero) s a (suc (suc zero)) l = record { k = 0; other = λ e. omega arith; apart = inr (omega arith) }
-neighbours (suc zero) s a (suc (suc (suc zero))) l = record { k = 2; other = λ e. omega arith; apart = inr (omega arith) }
-neighbours (suc zero) s a (suc (suc (suc (suc i)))) l = absurd (past_four i l)
-neighbours (suc (suc zero)) s a zero l = record { k = 1; other = λ e. omega arith; apart = inl (omega arith) }
-neighbours (suc (suc zero)) s a (suc zero) l = record { k = 0; other = λ e. omega arith; apart = inl (omega arith) }
-neighbours (suc (suc zero)) s a (suc (suc zero)) l = record { k = 1; other = λ e. omega arith; apart = inr (omega arith) }
-neighbours (suc (suc zero)) s a (suc (suc (suc zero))) l = record { k = 0; other = λ e. omega arith; apart = inr (omega arith) }
-neighbours (suc (suc zero)) s a (suc (suc (suc (suc i)))) l = absurd (past_four i l)
-neighbours (suc (suc (suc axis))) s a i l = absurd (past axis a)
+neighbours axis side a =
+    of_three Around
+    (of_four (Pair 0)
+    (record { k = 1; other = λ e. omega arith; apart = inl (omega arith) })
+    (record { k = 2; other = λ e. omega arith; apart = inl (omega arith) })
+    (record { k = 1; other = λ e. omega arith; apart = inr (omega arith) })
+    (record { k = 2; other = λ e. omega arith; apart = inr (omega arith) }))
+    (of_four (Pair 1)
+    (record { k = 0; other = λ e. omega arith; apart = inl (omega arith) })
+    (record { k = 2; other = λ e. omega arith; apart = inl (omega arith) })
+    (record { k = 0; other = λ e. omega arith; apart = inr (omega arith) })
+    (record { k = 2; other = λ e. omega arith; apart = inr (omega arith) }))
+    (of_four (Pair 2)
+    (record { k = 1; other = λ e. omega arith; apart = inl (omega arith) })
+    (record { k = 0; other = λ e. omega arith; apart = inl (omega arith) })
+    (record { k = 1; other = λ e. omega arith; apart = inr (omega arith) })
+    (record { k = 0; other = λ e. omega arith; apart = inr (omega arith) }))
+    axis a
+  where
+    Pair : ℕ → ℕ → Type 0
+    Pair axis i = Neighbours axis (corner_at axis side i) (corner_at axis side (next i))
+
+    Around : ℕ → Type 0
+    Around axis = (i : ℕ) → i < 4 → Pair axis i
 
 vertex_numbers : (axis side i : ℕ) → i < 4 → get_or (four_codes vertex_header (vertex_codes_of axis side)) i unknown ≡ packed vertex_header (2 * corner_at axis side i)
 unfolding vertex_codes_of
-vertex_numbers axis side zero l = refl
-vertex_numbers axis side (suc zero) l = refl
-vertex_numbers axis side (suc (suc zero)) l = refl
-vertex_numbers axis side (suc (suc (suc zero))) l = refl
-vertex_numbers axis side (suc (suc (suc (suc i)))) l = absurd (past_four i l)
+vertex_numbers axis side = of_four (λ i. get_or (four_codes vertex_header (vertex_codes_of axis side)) i unknown ≡ packed vertex_header (2 * corner_at axis side i)) refl refl refl refl
 
 edge_numbers : (axis side i : ℕ) → i < 4 → get_or (four_codes edge_header (edge_codes_of axis side)) i unknown ≡ packed edge_header (joining (corner_at axis side i) (corner_at axis side (next i)))
 unfolding edge_codes_of
-edge_numbers axis side zero l = refl
-edge_numbers axis side (suc zero) l = refl
-edge_numbers axis side (suc (suc zero)) l = refl
-edge_numbers axis side (suc (suc (suc zero))) l = refl
-edge_numbers axis side (suc (suc (suc (suc i)))) l = absurd (past_four i l)
+edge_numbers axis side = of_four (λ i. get_or (four_codes edge_header (edge_codes_of axis side)) i unknown ≡ packed edge_header (joining (corner_at axis side i) (corner_at axis side (next i)))) refl refl refl refl
 
 face_number : (axis side : ℕ) → axis + side * 3 + 10 ≡ 10 + axis + 3 * side
 face_number axis side = omega arith

@@ -1,5 +1,5 @@
 -- Each vertex of a cuboid's face is exactly a corner of the cuboid: a product by 1 or -1 is exact, so across the face the half extent is kept or turned.
-use Rattle.std.proofs.Common.{◌≡◌, ℕ, zero, suc, ◌<◌, Bool, true, false, cond, T, eqb, List, [], ◌∷◌, sym, refl, ◌∙◌, subst, inl, inr}
+use Rattle.std.proofs.Common.{◌≡◌, ℕ, Bool, true, false, cond, T, eqb, List, sym, refl, subst, inl, inr}
 use lib.Ieee.{Float, binary64, of_bits, neg, fits}
 use Rattle.std.specs.Float.{float_with_sign, is_sign_negative}
 use Rattle.std.proofs.lemmas.Bool.{cond_both, cases_Bool, eqb-true, eqb-false}
@@ -8,9 +8,7 @@ use Rattle.math.specs.Floats.{◌⊗◌, opposite, one}
 use Rattle.math.specs.Vectors.{coordinate}
 use Rattle.math.specs.declared.vector.Vector.{Vector}
 use Rattle.math.proofs.TimesOne.{times_one, times_minus_one}
-use Rattle.shape.specs.Cuboids.{main_axis_of, side_of, face_vertices_of, PlusOrMinus, on_side, Across, FaceCorner, AroundFace, ExactCorner, ExactlyAround}
-use Rattle.shape.specs.Nearness.{vertex_at}
-use Rattle.shape.proofs.Cuboids.{past, past_four}
+use Rattle.shape.specs.Cuboids.{main_axis_of, side_of, PlusOrMinus, on_side, Across, FaceCorner, AroundFace, ExactCorner, ExactlyAround}
 
 one_on_side : (b : Bool) → float_with_sign b one ≡ on_side (cond b 0 1) one
 unfolding of_bits float_with_sign neg
@@ -28,25 +26,6 @@ times_side h side H = go (eqb side 1)
     go : (b : Bool) → h ⊗ cond b one (opposite one) ≡ cond b h (opposite h)
     go true = times_one h H
     go false = times_minus_one h H
-
--- what holds of four vertices holds of each
-of_four : (P : Vector → Type 0) (a b c d : Vector) → P a → P b → P c → P d → (i : ℕ) → i < 4 → P (vertex_at (a ∷ b ∷ c ∷ d ∷ []) i)
-of_four P a b c d p q r s zero l = p
-of_four P a b c d p q r s (suc zero) l = q
-of_four P a b c d p q r s (suc (suc zero)) l = r
-of_four P a b c d p q r s (suc (suc (suc zero))) l = s
-of_four P a b c d p q r s (suc (suc (suc (suc i)))) l = absurd (past_four i l)
-
-face_exact : (he : Vector) (axis : ℕ) (sign : Float) (side : ℕ) → axis < 3 → coordinate he axis ⊗ sign ≡ on_side side (coordinate he axis) → Across he axis side (face_vertices_of he axis sign)
-unfolding face_vertices_of
-face_exact he zero sign side l E = of_four (λ (v : Vector). v.x ≡ on_side side he.x) _ _ _ _ E E E E
-face_exact he (suc zero) sign side l E = of_four (λ (v : Vector). v.y ≡ on_side side he.y) _ _ _ _ E E E E
-face_exact he (suc (suc zero)) sign side l E = of_four (λ (v : Vector). v.z ≡ on_side side he.z) _ _ _ _ E E E E
-face_exact he (suc (suc (suc axis))) sign side l E = absurd (past axis l)
-
--- where the product along the face's axis is exact, so is each vertex there
-pub across_exact : (he : Vector) (sign : Float) (side : ℕ) {axis k : ℕ} {a : Float} {vs : List Vector} → axis ≡ k → k < 3 → vs ≡ face_vertices_of he axis sign → a ≡ coordinate he k ⊗ sign → a ≡ on_side side (coordinate he k) → Across he axis side vs
-across_exact he sign side {axis} {k} is l e p q = subst (Across he axis side) (sym e) (subst (λ (j : ℕ). Across he j side (face_vertices_of he j sign)) (sym is) (face_exact he k sign side l (sym p ∙ q)))
 
 side_either : (side : ℕ) (h : Float) → PlusOrMinus h (on_side side h)
 side_either side h = cond_both (eqb side 1) h (opposite h) (PlusOrMinus h) (λ p. inl refl) (λ p. inr refl)

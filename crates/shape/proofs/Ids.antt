@@ -1,13 +1,11 @@
 -- Ids and what they stand for: a quotient and a remainder by 2^30, so that packing and unpacking undo each other.
-use Rattle.std.proofs.Common.{◌≡◌, ℕ, zero, suc, ◌+◌, ◌-◌, ◌*◌, ◌/◌, ◌%◌, ◌^◌, ◌<◌, ◌≤◌, Bool, true, false, cond, eqb, ltb, Some, None, Option, sym, refl, ap, ◌∙◌, subst, inl, inr, arith}
+use Rattle.std.proofs.Common.{◌≡◌, ℕ, zero, suc, ◌+◌, ◌-◌, ◌*◌, ◌/◌, ◌%◌, ◌^◌, ◌<◌, ◌≤◌, true, false, cond, eqb, ltb, Some, None, sym, refl, ap, ◌∙◌, inl, inr, arith, List, [], ◌∷◌, length, map}
 use Rattle.std.specs.Int.Bits.{bit_and, bit_or}
-use Rattle.std.specs.Option.{option_eq, option_map_or}
+use Rattle.std.specs.Option.{option_eq}
 use Rattle.std.proofs.lemmas.Nat.{shr_high, mod_low, shr_split, mod_below, pow_pos, le-div, div_below, and_mask, or_shifted}
 use Rattle.std.proofs.lemmas.Bool.{cases_Bool, ltb-true, lt-ltb, eqb-true, eqb-false, ne_eqb, cond-true}
 use Rattle.math.specs.Refusals.{done, refused}
-use Rattle.shape.specs.Ids.{vertex_header, edge_header, face_header, header, packed, packing, has_header, kind_of, feature_of, unpacked, repacking, OnlyFrom, PacksBack}
-use Rattle.shape.specs.declared.feature_id.FeatureId.{FeatureId}
-use Rattle.shape.specs.declared.feature_id.FeatureId.TheVariants.{Unknown}
+use Rattle.shape.specs.Ids.{vertex_header, edge_header, face_header, header, packed, four_codes, packing, has_header, kind_of, feature_of, unpacked, OnlyFrom}
 use Rattle.shape.specs.declared.feature_id.FeatureKind.{FeatureKind}
 use Rattle.shape.specs.declared.feature_id.FeatureKind.TheVariants as KindOf
 use Rattle.shape.specs.declared.feature_id.PackedFeatureId.{PackedFeatureId}
@@ -53,18 +51,17 @@ only_from h c l k d e =
     never : ltb d (2 ^ 30) ≡ false → ⊥
     never f = let z : ◌≡◌ {A = ℕ} 0 1 = cc in omega arith
 
-packs_under : (h : ℕ) (id : PackedFeatureId) → has_header h id ≡ true → packing h (id.0 % 2 ^ 30) ≡ done id
+pub packs_masked : (h : ℕ) (id : PackedFeatureId) → has_header h id ≡ true → packing h (bit_and id.0 (2 ^ 30 - 1)) ≡ done id
 unfolding packed
-packs_under h id t =
+packs_masked h id t =
     let e = eqb-true (id.0 / 2 ^ 30) h t in
     let s = shr_split id.0 30 in
     let whole : h * 2 ^ 30 + id.0 % 2 ^ 30 ≡ id.0 = ap (λ (n : ℕ). n * 2 ^ 30 + id.0 % 2 ^ 30) (sym e) ∙ s in
     let fits : id.0 % 2 ^ 30 < 2 ^ 30 = mod_below id.0 (2 ^ 30) (pow_pos 30) in
-    let as-id : ℕ → PackedFeatureId = λ n. record { 0 = n } in
-    cond-true (ltb (id.0 % 2 ^ 30) (2 ^ 30)) (done (packed h (id.0 % 2 ^ 30))) (refused 7) (lt-ltb _ _ fits) ∙ ap (λ (n : ℕ). done (as-id n)) whole
+    ap (packing h) (and_mask id.0 30) ∙ cond-true (ltb (id.0 % 2 ^ 30) (2 ^ 30)) (done (packed h (id.0 % 2 ^ 30))) (refused 7) (lt-ltb _ _ fits) ∙ ap (λ (n : ℕ). done (packed_as n)) whole
 
 -- 32 bits at or above 2^30 have one of the three headers
-no_header : (id : PackedFeatureId) → id.0 < 2 ^ 32 → 2 ^ 30 ≤ id.0 → has_header vertex_header id ≡ false → has_header edge_header id ≡ false → has_header face_header id ≡ false → ⊥
+pub no_header : (id : PackedFeatureId) → id.0 < 2 ^ 32 → 2 ^ 30 ≤ id.0 → has_header vertex_header id ≡ false → has_header edge_header id ≡ false → has_header face_header id ≡ false → ⊥
 no_header id small large v e f =
     let a = eqb-false (id.0 / 2 ^ 30) 1 v in
     let b = eqb-false (id.0 / 2 ^ 30) 2 e in
@@ -72,19 +69,6 @@ no_header id small large v e f =
     let low = le-div 1 id.0 (2 ^ 30) (pow_pos 30) large in
     let high = div_below id.0 (2 ^ 30) 4 (pow_pos 30) small in
     omega (arith, a, b, d)
-
-pub packs_back : (id : PackedFeatureId) → id.0 < 2 ^ 32 → PacksBack id (unpacked id)
-unfolding unpacked
-packs_back id small large = go (has_header vertex_header id) (has_header edge_header id) (has_header face_header id) refl refl refl
-  where
-    c : ℕ
-    c = id.0 % 2 ^ 30
-
-    go : (v e f : Bool) → has_header vertex_header id ≡ v → has_header edge_header id ≡ e → has_header face_header id ≡ f → repacking (option_map_or (λ (k : FeatureKind). feature_of k c) (cond v (Some KindOf.Vertex) (cond e (Some KindOf.Edge) (cond f (Some KindOf.Face) None))) Unknown) ≡ done id
-    go true e f p q r = packs_under vertex_header id p
-    go false true f p q r = packs_under edge_header id q
-    go false false true p q r = packs_under face_header id r
-    go false false false p q r = absurd (no_header id small large p q r)
 
 -- the test of the kind is the test of its header
 pub is_kind : (kind : FeatureKind) (id : PackedFeatureId) → option_eq eq-value.it (kind_of id) (Some kind) ≡ has_header (header kind) id
@@ -118,10 +102,10 @@ is_kind kind id = go (id.0 / 2 ^ 30) kind
         let d = other n (header kind) (below kind) in
         cc
 
--- what stands for the kind and the code, by the mask
-pub of_kind : (id : PackedFeatureId) (kind : Option FeatureKind) → id.0 < 2 ^ 32 → kind_of id ≡ kind → let feature = option_map_or (λ (k : FeatureKind). feature_of k (bit_and id.0 (2 ^ 30 - 1))) kind Unknown in (feature ≡ unpacked id) × PacksBack id feature
-unfolding unpacked
-of_kind id kind small is =
-    let feature : ℕ → Option FeatureKind → FeatureId = λ n o. option_map_or (λ (k : FeatureKind). feature_of k n) o Unknown in
-    let same : feature (bit_and id.0 (2 ^ 30 - 1)) kind ≡ unpacked id = ap (λ (n : ℕ). feature n kind) (and_mask id.0 30) ∙ ap (feature (id.0 % 2 ^ 30)) (sym is) in
-    (same, subst (PacksBack id) (sym same) (packs_back id small))
+pub four_packed : (h : ℕ) (codes : List ℕ) → length codes ≡ 4 → map (packed h) codes ≡ four_codes h codes
+four_packed h [] l = absurd (omega arith)
+four_packed h (a ∷ []) l = absurd (omega arith)
+four_packed h (a ∷ b ∷ []) l = absurd (omega arith)
+four_packed h (a ∷ b ∷ c ∷ []) l = absurd (omega arith)
+four_packed h (a ∷ b ∷ c ∷ d ∷ []) l = refl
+four_packed h (a ∷ b ∷ c ∷ d ∷ e ∷ codes) l = absurd (omega arith)

@@ -1,4 +1,5 @@
 pub mod Azimuth
+pub mod Cases
 pub mod Cuboids
 pub mod ExactCorners
 pub mod Ids

@@ -1,7 +1,6 @@
 -- The test of all four moved vertices is the test of the used ones: the unused ones lie near already.
-use Rattle.std.proofs.Common.{◌≡◌, ℕ, zero, suc, ◌≤◌, Bool, true, false, cond, ltb, List, [], ◌∷◌, ◌++◌, length, map, take, drop, refl, ap, ◌∙◌, arith}
+use Rattle.std.proofs.Common.{◌≡◌, ℕ, zero, suc, ◌≤◌, Bool, true, false, cond, ltb, List, [], ◌∷◌, ◌++◌, length, map, take, drop, lit<, refl, ap, ◌∙◌, arith}
 use Rattle.std.proofs.lemmas.List.{append-nil, take_all, drop_all}
-use Rattle.std.proofs.lemmas.Bool.{and_parts}
 use Rattle.math.specs.Magnitude.{vector_within}
 use Rattle.math.specs.Poses.{transformed}
 use Rattle.math.specs.declared.pose.Pose.{Pose}
@@ -9,6 +8,7 @@ use Rattle.math.specs.declared.vector.Vector.{Vector}
 use Rattle.shape.specs.Features.{Fields}
 use Rattle.shape.specs.Moves.{is_used, moved_vertex, lands_near, moved, all_land_near}
 use Rattle.shape.specs.Nearness.{vertex_limit, vertex_at, all_within, near_all}
+use Rattle.shape.proofs.Near.{within_each}
 
 one_lands : (used : Bool) (t v : Vector) → vector_within vertex_limit v ≡ true → vector_within vertex_limit (cond used t v) ≡ cond used (vector_within vertex_limit t) true
 one_lands true t v h = refl
@@ -43,11 +43,9 @@ module _ (p : Pose) (f : Fields) where
   pub near_moved : near_all f.vertices ≡ true → near_all (moved p f).vertices ≡ all_land_near p f
   unfolding all_within moved all_land_near
   near_moved h =
-      let p3 = and_parts _ _ h in
-      let p2 = and_parts _ _ p3.0 in
-      let p1 = and_parts _ _ p2.0 in
-      let a = lands 0 p1.0 in
-      let b = lands 1 p1.1 in
-      let d = lands 2 p2.1 in
-      let e = lands 3 p3.1 in
+      let near = within_each vertex_limit f.vertices h in
+      let a = lands 0 (near 0 (lit< tt)) in
+      let b = lands 1 (near 1 (lit< tt)) in
+      let d = lands 2 (near 2 (lit< tt)) in
+      let e = lands 3 (near 3 (lit< tt)) in
       cc

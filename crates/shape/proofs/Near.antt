@@ -1,12 +1,12 @@
 -- The vertices of every feature lie within 2^21: what may be given does, and so does an azimuth of at most 2 times a radius of at most 2^20.
-use Rattle.std.proofs.Common.{◌≡◌, true, List, length, refl, ◌∙◌, subst}
+use Rattle.std.proofs.Common.{◌≡◌, ℕ, ◌<◌, true, List, length, lit<, refl, ◌∙◌, subst}
 use lib.Ieee.{Float, nan, inf, fin, of_bits, mul, round, le}
 use Rattle.std.specs.Float.{float_with_sign}
 use Rattle.std.specs.List.{list_all}
 use Rattle.std.proofs.lemmas.Bool.{and_parts, and_from}
 use Rattle.math.specs.Basis.{signed}
 use Rattle.math.specs.Floats.{◌⊗◌, opposite, two}
-use Rattle.math.specs.Limits.{limit}
+use Rattle.math.specs.Limits.{limit, vector_given}
 use Rattle.math.specs.Magnitude.{bound, within, vector_within, vector2_within}
 use Rattle.math.specs.declared.vector.Vector.{Vector}
 use Rattle.math.specs.declared.vector2.Vector2.{Vector2}
@@ -18,6 +18,7 @@ use Rattle.shape.specs.Cylinders.{side, rim}
 use Rattle.shape.specs.Features.{origin, nothing}
 use Rattle.shape.specs.Nearness.{vertex_limit, vertex_at, all_within, near_all, given_all}
 use Rattle.shape.specs.Sizes.{is_size}
+use Rattle.shape.proofs.Cases.{of_four}
 
 vertex_limit_bound : bound vertex_limit ≡ true
 unfolding of_bits
@@ -42,13 +43,25 @@ pub four_within : (b : Float) (vs : List Vector) → length vs ≡ 4 → list_al
 unfolding all_within
 four_within b vs long = all_of_four (vector_within b) _ vs long
 
-pub all_near : (vs : List Vector) → given_all vs ≡ true → near_all vs ≡ true
+pub all_given : (vs : List Vector) → length vs ≡ 4 → list_all vector_given vs ≡ given_all vs
+all_given vs long = four_within limit vs long
+
+pub within_each : (b : Float) (vs : List Vector) → all_within b vs ≡ true → (i : ℕ) → i < 4 → vector_within b (vertex_at vs i) ≡ true
 unfolding all_within
-all_near vs h =
+within_each b vs h =
     let p3 = and_parts _ _ h in
     let p2 = and_parts _ _ p3.0 in
     let p1 = and_parts _ _ p2.0 in
-    and_from _ _ (and_from _ _ (and_from _ _ (vertex_near (vertex_at vs 0) p1.0) (vertex_near (vertex_at vs 1) p1.1)) (vertex_near (vertex_at vs 2) p2.1)) (vertex_near (vertex_at vs 3) p3.1)
+    of_four (λ i. vector_within b (vertex_at vs i) ≡ true) p1.0 p1.1 p2.1 p3.1
+
+pub from_four : (b : Float) (vs : List Vector) → vector_within b (vertex_at vs 0) ≡ true → vector_within b (vertex_at vs 1) ≡ true → vector_within b (vertex_at vs 2) ≡ true → vector_within b (vertex_at vs 3) ≡ true → all_within b vs ≡ true
+unfolding all_within
+from_four b vs p q r s = and_from _ _ (and_from _ _ (and_from _ _ p q) r) s
+
+pub all_near : (vs : List Vector) → given_all vs ≡ true → near_all vs ≡ true
+all_near vs h =
+    let near : (i : ℕ) → i < 4 → vector_within vertex_limit (vertex_at vs i) ≡ true = λ i l. vertex_near (vertex_at vs i) (within_each limit vs h i l) in
+    from_four vertex_limit vs (near 0 (lit< tt)) (near 1 (lit< tt)) (near 2 (lit< tt)) (near 3 (lit< tt))
 
 pub origin_near : vector_within vertex_limit origin ≡ true
 unfolding vector_within within float_with_sign of_bits le
@@ -91,22 +104,20 @@ module _ (hh r : Float) (az : Vector2) (H : is_size hh ≡ true) (R : is_size r 
   tall = given_near hh (size_given hh H)
 
   pub side_near : near_all (side hh r az).vertices ≡ true
-  unfolding side all_within
+  unfolding side
   side_near =
       let x = reach az.x r ax rg in
       let z = reach az.y r ay rg in
-      and_from _ _ (and_from _ _ (and_from _ _ (point _ _ _ x (neg_within vertex_limit hh ∙ tall) z) (point _ _ _ x tall z)) origin_near) origin_near
+      from_four vertex_limit _ (point _ _ _ x (neg_within vertex_limit hh ∙ tall) z) (point _ _ _ x tall z) origin_near origin_near
 
   pub rim_near : (s : Float) → near_all (rim (signed s hh) r az) ≡ true
-  unfolding all_within
   rim_near s =
       let x = reach az.x r ax rg in
       let z = reach az.y r ay rg in
       let bx = reach_back az.x r ax rg in
       let bz = reach_back az.y r ay rg in
       let y = signed_within vertex_limit s hh tall in
-      and_from _ _ (and_from _ _ (and_from _ _ (point _ _ _ x y z) (point _ _ _ bz y x)) (point _ _ _ bx y bz)) (point _ _ _ z y bx)
+      from_four vertex_limit _ (point _ _ _ x y z) (point _ _ _ bz y x) (point _ _ _ bx y bz) (point _ _ _ z y bx)
 
 pub nothing_near : near_all nothing.vertices ≡ true
-unfolding all_within
-nothing_near = and_from _ _ (and_from _ _ (and_from _ _ origin_near origin_near) origin_near) origin_near
+nothing_near = from_four vertex_limit _ origin_near origin_near origin_near origin_near

@@ -1,5 +1,5 @@
 -- Where the vertices of a cylinder's feature stand: a product with an opposite is the opposite product, so each vertex of a cap is a quarter turn from the one before.
-use Rattle.std.proofs.Common.{◌≡◌, ℕ, zero, suc, ◌+◌, ◌-◌, ◌*◌, ◌/◌, ◌%◌, ◌^◌, ◌<◌, Bool, true, false, cond, not, eqb, ltb, ◌⊎◌, Some, None, Option, unwrap_or, sym, refl, ap, ◌∙◌, subst, inl, inr, arith}
+use Rattle.std.proofs.Common.{◌≡◌, ℕ, zero, suc, ◌+◌, ◌-◌, ◌*◌, ◌/◌, ◌%◌, ◌^◌, ◌<◌, Bool, true, false, cond, not, eqb, ltb, ◌⊎◌, Some, None, Option, unwrap_or, sym, refl, ap, ◌∙◌, subst, inl, inr}
 use Prim.Native.Nat.{compare}
 use lib.Ieee as Ieee
 use lib.Ieee.{Float, Format, nan, inf, fin, binary64, prec, emax, low, unlike, nearest, odd, units, round, neg, mul, up, down}
@@ -13,6 +13,7 @@ use Rattle.math.specs.declared.vector.Vector.{Vector}
 use Rattle.math.specs.declared.vector2.Vector2.{Vector2}
 use Rattle.shape.specs.Cylinders.{flat, from_hint, azimuth, rim, side, top, bottom, cap, half, cylinder_fields, AzimuthFrom, quarter_turned, SegmentAt, SquareAt, StandsAt}
 use Rattle.shape.specs.Nearness.{vertex_at}
+use Rattle.shape.proofs.Cases.{of_three}
 
 -- ---- opposites
 
@@ -69,16 +70,11 @@ opposite_twice (fin false m e) = refl
 -- ---- the square on a rim
 
 rim_turns : (y r : Float) (az : Vector2) (i : ℕ) → i < 3 → vertex_at (rim y r az) (suc i) ≡ quarter_turned (vertex_at (rim y r az) i)
-rim_turns y r az zero l = let a = opposite_product az.y r in cc
-rim_turns y r az (suc zero) l = let a = opposite_product az.x r in cc
-rim_turns y r az (suc (suc zero)) l =
-    let a = opposite_product az.y r in
-    let b = opposite_twice (az.y ⊗ r) in
-    cc
-rim_turns y r az (suc (suc (suc i))) l = absurd (past i l)
-  where
-    past : (i : ℕ) → suc (suc (suc i)) < 3 → ⊥
-    past i l = omega arith
+rim_turns y r az =
+    let a = opposite_product az.x r in
+    let b = opposite_product az.y r in
+    let d = opposite_twice (az.y ⊗ r) in
+    of_three (λ i. vertex_at (rim y r az) (suc i) ≡ quarter_turned (vertex_at (rim y r az) i)) (cc) (cc) (cc)
 
 cap_square : (hh r : Float) (dir : Vector) (az : Vector2) → SquareAt (signed dir.y hh) r az (cap hh r dir az)
 unfolding cap top bottom

@@ -12,7 +12,7 @@ use math::wops;
 
 mod face;
 
-#[derive(Clone, Copy)]
+#[derive(Clone, Copy, Debug, PartialEq)]
 pub struct Cuboid {
     pub half_extents: Vector,
     ghost sized: { are_sizes half_extents ≡ true },
@@ -25,6 +25,7 @@ impl Cuboid {
     ghost use Rattle.shape.specs.Supports.{direction_given, supporting};
     ghost use Rattle.shape.specs.Cuboids.{extents_of, making, main_axis_of, AroundFace, ExactlyAround, Supporting, cuboid_fields};
 
+    #[tactic(auto, using(crate::proofs::Cuboids::sized))]
     pub fn new(half_extents: Vector) -> Result<Cuboid, Refusal>
         ensures { told_as extents_of result ≡ making half_extents }
     {
@@ -58,6 +59,7 @@ impl Cuboid {
     }
 
     // The face across the axis along which the direction is largest in size, on the side of its sign there.
+    #[tactic(auto, using(crate::proofs::Cuboids::supports, crate::proofs::Cuboids::first_largest, crate::proofs::Cuboids::sizes_number))]
     pub fn support_face(
         &self,
         local_dir: Vector,

@@ -5,7 +5,7 @@ ghost use Rattle.shape.specs.Sizes.{is_size};
 use math::limits::Given;
 use math::refusal::Refusal;
 
-#[derive(Clone, Copy)]
+#[derive(Clone, Copy, Debug, PartialEq)]
 pub struct Cylinder {
     pub half_height: f64,
     pub radius: f64,
@@ -17,6 +17,7 @@ impl Cylinder {
     ghost use Rattle.math.specs.Refusals.{told_as};
     ghost use Rattle.shape.specs.Cylinders.{sizes, making};
 
+    #[tactic(auto, unfolding(crate::specs::Sizes::is_size))]
     pub fn new(half_height: f64, radius: f64) -> Result<Cylinder, Refusal>
         ensures { told_as sizes result ≡ making half_height radius }
     {

@@ -12,6 +12,7 @@ pub enum FeatureKind {
     Face,
 }
 
+// The cases are those of the Rust crate that is ported.
 #[derive(Clone, Copy, Debug, PartialEq, Eq)]
 pub enum FeatureId {
     Vertex(u32),
@@ -46,6 +47,7 @@ impl PackedFeatureId {
     // The id of nothing.
     pub const UNKNOWN: PackedFeatureId = PackedFeatureId(0);
 
+    #[tactic(auto, using(crate::proofs::Ids::unpacks, crate::proofs::Ids::only_from))]
     pub fn pack(kind: FeatureKind, code: u32) -> Result<PackedFeatureId, Refusal>
         ensures value { told result ≡ packing (header kind) code }
         ensures back { UnpacksTo (told result) (feature_of kind code) }
@@ -103,6 +105,7 @@ impl PackedFeatureId {
     }
 
     // An id under the header 00 names nothing, whatever its code.
+    #[tactic(auto, using(crate::proofs::Ids::packs_masked, crate::proofs::Ids::no_header), unfolding(crate::specs::Ids::unpacked))]
     pub fn unpack(self) -> FeatureId
         ensures value { result ≡ unpacked self }
         ensures back { PacksBack self result }

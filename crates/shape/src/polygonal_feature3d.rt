@@ -22,7 +22,7 @@ pub struct FeatureRow {
     pub num_vertices: usize,
 }
 
-#[derive(Clone, Copy)]
+#[derive(Clone, Copy, Debug, PartialEq)]
 pub struct PolygonalFeature {
     pub vertices: [Vector; 4],
     pub vids: [PackedFeatureId; 4],
@@ -33,6 +33,8 @@ pub struct PolygonalFeature {
     ghost few: { num_vertices ≤ 4 },
 }
 
+// The coordinates are named, so the test is written out for each.
+#[tactic(auto, unfolding(math::specs::Magnitude::within, math::specs::Magnitude::vector_within))]
 fn is_near(v: Vector) -> bool
     ensures { result ≡ vector_within vertex_limit v }
 {
@@ -51,6 +53,7 @@ impl PolygonalFeature {
     ghost use Rattle.shape.specs.Moves.{moving, moved_or_kept};
 
     // The feature with no vertices.
+    #[tactic(auto, using(crate::proofs::Near::nothing_near))]
     pub fn new() -> PolygonalFeature
         ensures { fields result ≡ nothing }
     {
@@ -64,6 +67,7 @@ impl PolygonalFeature {
     }
 
     // The feature with these fields into `out`. Turned down with 2 where a coordinate may not be given, an unused vertex's too, with 6 where there are more than four vertices.
+    #[tactic(auto, using(crate::proofs::Near::all_given, crate::proofs::Near::all_near))]
     pub fn make(row: FeatureRow, out: &mut PolygonalFeature) -> Result<(), Refusal>
         ensures answer { told result ≡ making row }
         ensures after { fields out.new ≡ made row (fields out.old) }
@@ -92,6 +96,7 @@ impl PolygonalFeature {
     }
 
     // The used vertices where the pose takes them; unused vertices and all ids stay. Turned down with 2 where a number of the pose may not be given, with 4 where its rotation is off unit length, with 8 where a used vertex would go beyond 2^21.
+    #[tactic(auto, using(std::proofs::lemmas::List::Edits::map_over_more))]
     pub fn transform_by(&mut self, pos: &Pose) -> Result<(), Refusal>
         ensures answer { told result ≡ moving pos.now (fields self.old) }
         ensures after { fields self.new ≡ moved_or_kept pos.now (fields self.old) }

@@ -41,6 +41,7 @@ struct Azimuth {
 }
 
 // From the hint where it lies off the axis, else from the direction, else along x.
+#[tactic(auto, unfolding(crate::specs::Cylinders::azimuth))]
 fn feature_azimuth(dir: Vector, hint: Option<Vector>) -> Azimuth
     requires { direction_given dir hint ≡ true }
     ensures { result.along ≡ azimuth dir hint }
@@ -53,6 +54,7 @@ fn feature_azimuth(dir: Vector, hint: Option<Vector>) -> Azimuth
 }
 
 impl Cylinder {
+    #[tactic(auto, using(crate::proofs::Turns::azimuth_from, crate::proofs::Turns::stands), unfolding(crate::specs::Cylinders::cylinder_meaning))]
     pub fn support_feature(
         &self,
         dir: Vector,
@@ -72,6 +74,7 @@ impl Cylinder {
     }
 
     // The curved side is one segment, each cap a square on its rim.
+    #[tactic(auto, unfolding(crate::specs::Cylinders::cylinder_fields))]
     fn support_feature_with_azimuth(
         &self,
         dir: Vector,
@@ -87,6 +90,7 @@ impl Cylinder {
         }
     }
 
+    #[tactic(auto, using(crate::proofs::Near::side_near), unfolding(crate::specs::Cylinders::side))]
     fn side_segment(&self, azimuth: Azimuth, out_features: &mut PolygonalFeature)
         ensures { fields out_features.new ≡ side self.now.half_height self.now.radius azimuth.along }
     {
@@ -106,11 +110,13 @@ impl Cylinder {
         };
     }
 
+    #[tactic(auto, using(crate::proofs::Near::rim_near), unfolding(crate::specs::Cylinders::cap, crate::specs::Cylinders::bottom, crate::specs::Cylinders::top))]
     fn cap_square(&self, dir: Vector, azimuth: Azimuth, out_features: &mut PolygonalFeature)
         ensures { fields out_features.new ≡ cap self.now.half_height self.now.radius dir azimuth.along }
     {
         let dir2 = azimuth.along;
         let y = wops::copy_sign_to(dir.y, self.half_height);
+        // Each product is taken as the Rust crate that is ported takes it.
         let vertices = [
             Vector::new(dir2.x * self.radius, y, dir2.y * self.radius),
             Vector::new(-dir2.y * self.radius, y, dir2.x * self.radius),
@@ -145,6 +151,7 @@ impl PolygonalFeatureMap for Cylinder {
     }
 }
 
+#[tactic(auto, unfolding(crate::specs::Cuboids::cuboid_meaning))]
 impl PolygonalFeatureMap for Cuboid {
     ghost meaning = { cuboid_meaning };
 

@@ -25,11 +25,23 @@ fn cylinder_feature(dir: Vector, hint: Option<Vector>) -> Result<PolygonalFeatur
 #[test]
 fn cuboid_faces(rt: HostRuntime) -> Result<(), Fail> {
     let up = cuboid_face(0.0, 1.0, 0.0)?;
-    assert_eq!(rt; up.vids.map(|id| id.unpack()), [4, 12, 14, 6].map(FeatureId::Vertex));
-    assert_eq!(rt; up.eids.map(|id| id.unpack()), [242, 254, 251, 218].map(FeatureId::Edge));
+    assert_eq!(rt;
+        up.vids.map(|id| id.unpack()),
+        [4, 12, 14, 6].map(FeatureId::Vertex)
+    );
+    assert_eq!(rt;
+        up.eids.map(|id| id.unpack()),
+        [242, 254, 251, 218].map(FeatureId::Edge)
+    );
     assert_eq!(rt; up.fid.unpack(), FeatureId::Face(14));
-    assert_eq!(rt; cuboid_face(1.0, 1.0, 1.0)?.fid.unpack(), FeatureId::Face(13));
-    assert_eq!(rt; cuboid_face(-0.0, 0.0, 0.0)?.fid.unpack(), FeatureId::Face(10));
+    assert_eq!(rt;
+        cuboid_face(1.0, 1.0, 1.0)?.fid.unpack(),
+        FeatureId::Face(13)
+    );
+    assert_eq!(rt;
+        cuboid_face(-0.0, 0.0, 0.0)?.fid.unpack(),
+        FeatureId::Face(10)
+    );
     Ok(())
 }
 

@@ -28,6 +28,7 @@ pub(super) struct Face {
 }
 
 impl Axis {
+    #[tactic(auto, using(crate::proofs::Cuboids::axis_below))]
     pub(super) fn main(dir: Vector) -> Axis
         ensures { place result ≡ main_axis_of dir }
     {
@@ -77,6 +78,8 @@ fn with_bits(codes: [u8; 4], bits: u8) -> [u8; 4]
 }
 
 impl Face {
+    // Corner by corner, as the Rust crate that is ported has them.
+    #[tactic(auto, unfolding(crate::specs::Cuboids::face_vertices_of))]
     pub(super) fn vertices(self, he: Vector, sign: f64) -> [Vector; 4]
         ensures value { result ≡ face_vertices_of he (place self.axis) sign }
         ensures exact { (side : ℕ) → sign ≡ on_side side one → Across he (place self.axis) side result }
@@ -112,6 +115,7 @@ impl Face {
         }
     }
 
+    // The numbers of the corners, in the order of `vertices`.
     fn corners(self) -> [u8; 4]
         ensures { result ≡ face_corners (place self.axis) (side_number self.side) }
     {

@@ -1,4 +1,4 @@
--- The three ways are those of `azimuth`, and each is short.
+-- Each of the three ways is short.
 use Rattle.std.proofs.Common.{◌≡◌, ap, ◌∙◌, rules}
 use Rattle.math.specs.Floats.{two}
 use Rattle.math.specs.Magnitude.{vector2_within}
@@ -11,7 +11,3 @@ unfolding azimuth
 invariant_of-result c =
     let chosen : c.unwrap_or-along.result ≡ azimuth c.args.dir c.args.hint = search rules in
     record { short = ap (vector2_within two) chosen ∙ azimuth_within c.args.dir c.args.hint c.requires }
-
-pub returns : goal.returns
-unfolding azimuth
-returns c = search rules

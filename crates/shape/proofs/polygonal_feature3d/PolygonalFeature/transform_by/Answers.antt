@@ -1,21 +1,10 @@
 -- The moved vertices are those of `moved`, and the test of them is `all_land_near`.
-use Rattle.std.proofs.Common.{◌≡◌, ◌<◌, true, false, length, sym, ap, ◌∙◌, arith, rules}
-use Rattle.math.specs.Poses.{transformed}
+use Rattle.std.proofs.Common.{◌≡◌, true, false, length, sym, ap, ◌∙◌, arith, rules}
 use Rattle.shape.specs.Features.{fields}
 use Rattle.shape.specs.Moves.{moved, all_land_near}
 use Rattle.shape.specs.Nearness.{near_all}
-use Rattle.std.proofs.Math.ListN.{set}
-use Rattle.std.proofs.lemmas.List.{get_or_default}
-use Rattle.std.proofs.lemmas.List.Edits.{map_over_more}
 use Rattle.shape.proofs.Moves.{near_moved, moved_in_place}
 use Rattle.shape.proofs.polygonal_feature3d.PolygonalFeature.transform_by.Goals as goal
-
-pub loop-v-preserved : goal.loop-v-preserved
-loop-v-preserved c =
-    let l = c.loop-v in
-    let p = c.args.pos.now in
-    let inside : l.v-index < length l.v-items = omega arith in
-    ap (set l.v-items l.v-index) c.transform_point.ensures ∙ map_over_more (transformed p) _ l.v-items l.v-index _ c.loop-v-test.true l.invariant (get_or_default l.v-items l.v-index _ _ inside)
 
 pub returns-then-not-are_near : goal.returns-then-not-are_near
 returns-then-not-are_near c =
