@@ -1,12 +1,12 @@
 -- The clip's fractions are at most 1 in size, so its points stay near the two segments.
-use Rattle.std.proofs.Common.{◌≡◌, ℕ, Bool, true, false, cond, ◌||◌, T, Some, None, Option, sym, refl, ◌∙◌, subst, inl, inr, arith}
+use Rattle.std.proofs.Common.{◌≡◌, Bool, true, false, cond, ◌||◌, T, Some, sym, refl, ◌∙◌, subst, inl, inr}
 use lib.Ieee.{Float, binary64, of_bits, add, mul, round, lt, le, eq, fits}
 use lib.Ieee.Fits.{add-fits}
 use Rattle.std.specs.Float.{float_with_sign}
 use Rattle.std.proofs.lemmas.Bool.{cases_Bool, or_parts, cond-true, cond-false, and_from, or_left, or_right}
 use Rattle.math.specs.Floats.{◌⊕◌, ◌⊖◌, ◌⊗◌, ◌⊘◌, bits, zero, one}
 use Rattle.math.specs.Magnitude.{bound, within, vector_within}
-use Rattle.math.specs.Refusals.{done, refused}
+use Rattle.math.specs.Refusals.{done}
 use Rattle.math.specs.Vectors.{subtracted, scaled, dotted}
 use Rattle.math.specs.declared.vector.Vector.{Vector}
 use Rattle.math.proofs.Fraction.{fraction_within, squeezed}
@@ -286,26 +286,17 @@ module _ (seg1 : Segment) (h0 : vector_within end1 seg1.0 ≡ true) (h1 : vector
     clipped_near lo hi h =
         let r = ordered seg1 tangent seg2 in
         elim (cases_Bool (undefined (beside r))) [
-          | inl u ↦ absurd (refused_not_done (sym (cond-true (undefined (beside r)) _ _ u) ∙ h))
+          | inl u ↦ let e = sym (cond-true (undefined (beside r)) _ _ u) ∙ h in absurd (cc)
           | inr d ↦
               let h' = sym (cond-false (undefined (beside r)) _ _ d) ∙ h in
               elim (cases_Bool (apart (beside r))) [
-                | inl a ↦ absurd (none_not_some (sym (cond-true (apart (beside r)) _ _ a) ∙ h'))
+                | inl a ↦ let e = sym (cond-true (apart (beside r)) _ _ a) ∙ h' in absurd (cc)
                 | inr m ↦
                     let e = sym (cond-false (apart (beside r)) _ _ m) ∙ h' in
-                    let l = lies seg2 k0 k1 in
-                    let same = same_pair e in (
+                    let same : ◌≡◌ {A = Clip × Clip} (low_end (beside r), high_end (beside r)) (lo, hi) = cc in
+                    let l = lies seg2 k0 k1 in (
                       subst (λ (p : Clip × Clip). clip_near p.0 ≡ true) same (low_near r l d m),
                       subst (λ (p : Clip × Clip). clip_near p.1 ≡ true) same (high_near r l d m),
                     )
               ]
         ]
-      where
-        refused_not_done : {n : ℕ} {c : Option (Clip × Clip)} → refused n ≡ done c → ⊥
-        refused_not_done e = let z : ◌≡◌ {A = ℕ} 0 1 = cc in omega arith
-
-        none_not_some : {c : Clip × Clip} → done None ≡ done (Some c) → ⊥
-        none_not_some e = let z : ◌≡◌ {A = ℕ} 0 1 = cc in omega arith
-
-        same_pair : {p q : Clip × Clip} → done (Some p) ≡ done (Some q) → p ≡ q
-        same_pair e = cc

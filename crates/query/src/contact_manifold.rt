@@ -28,6 +28,7 @@ impl<D: Copy> Clone for TrackedContact<D> {
     }
 }
 
+#[tactic(auto, using(crate::proofs::ContactMagnitude::bounded_swap), unfolding(crate::specs::Contacts::fresh, crate::specs::Contacts::turned))]
 impl<D: ContactData> TrackedContact<D> {
     ghost use Rattle.query.specs.Contacts.{seen, fresh, turned};
 
