@@ -9,7 +9,9 @@ fn main(rt: HostRuntime) -> anyhow::Result<()> {
     let heap = rt.alloc();
     let mut session = Session::new();
     let mut text = String::new(heap);
-    let mut lines = BufReader::new(heap, rt.stdin())?.split(heap, b'\n').peekable();
+    let mut lines = BufReader::new(heap, rt.stdin())?
+        .split(heap, b'\n')
+        .peekable();
     if lines.peek().is_none() {
         rt.stdout().write_all(help::HELP.as_bytes())?;
     }
