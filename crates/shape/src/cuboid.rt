@@ -3,7 +3,6 @@ ghost use Rattle.std.specs.Prelude.{◌≡◌, true, if◌then◌else◌, None};
 ghost use Rattle.shape.specs.Sizes.{are_sizes};
 
 use crate::cuboid::face::{Axis, Face, Side};
-use crate::feature_id::{FeatureKind, PackedFeatureId};
 use crate::polygonal_feature3d::PolygonalFeature;
 use math::limits::Given;
 use math::refusal::Refusal;
@@ -51,9 +50,9 @@ impl Cuboid {
         };
         *out_feature = PolygonalFeature {
             vertices: face.vertices(self.half_extents, sign),
-            vids: PackedFeatureId::small_ids(FeatureKind::Vertex, face.vertex_codes()),
-            eids: PackedFeatureId::small_ids(FeatureKind::Edge, face.edge_codes()),
-            fid: PackedFeatureId::small(FeatureKind::Face, face.code()),
+            vids: face.vertex_ids(),
+            eids: face.edge_ids(),
+            fid: face.id(),
             num_vertices: 4,
         };
     }

@@ -1,10 +1,12 @@
-// A face of a cuboid: its four corners, and the codes of its vertices, of its edges and of itself.
+// A face of a cuboid: its four corners, and the ids of its vertices, of its edges and of itself.
 ghost use Rattle.std.specs.Prelude.{◌≡◌, ℕ, ◌+◌, ◌*◌, if◌then◌else◌, map, bit_or};
 ghost use Rattle.std.specs.Float.Ieee as Ieee;
 ghost use Rattle.math.specs.Floats.{◌⊗◌, zero, one};
 ghost use Rattle.math.specs.Vectors.{coordinate};
-ghost use Rattle.shape.specs.Cuboids.{place, side_number, main_axis_of, on_side, Across, face_vertices_of, face_corners, vertex_codes_of, edge_codes_of};
+ghost use Rattle.shape.specs.Cuboids.{place, side_number, main_axis_of, on_side, Across, face_vertices_of, vertex_codes_of, edge_codes_of};
+ghost use Rattle.shape.specs.Ids.{vertex_header, edge_header, face_header, header, packed, four_codes};
 
+use crate::feature_id::{FeatureKind, PackedFeatureId};
 use math::vector::Vector;
 
 #[derive(Clone, Copy)]
@@ -35,7 +37,8 @@ impl Axis {
         match dir.abs().max_position() {
             0 => Axis::X,
             1 => Axis::Y,
-            _ => Axis::Z,
+            2 => Axis::Z,
+            _ => unreachable!(),
         }
     }
 
@@ -71,10 +74,11 @@ fn across(half_extent: f64, sign: f64) -> f64
     half_extent * sign
 }
 
-fn with_bits(codes: [u8; 4], bits: u8) -> [u8; 4]
-    ensures { result ≡ map (λ code. bit_or code bits) codes }
+// The ids of these codes with these bits set.
+fn ids_with_bits(kind: FeatureKind, codes: [u8; 4], bits: u8) -> [PackedFeatureId; 4]
+    ensures { result ≡ map (λ code. packed (header kind) (bit_or code bits)) codes }
 {
-    codes.map(|code| code | bits)
+    codes.map(|code| PackedFeatureId::small(kind, code | bits))
 }
 
 impl Face {
@@ -115,48 +119,59 @@ impl Face {
         }
     }
 
-    // The numbers of the corners, in the order of `vertices`.
-    fn corners(self) -> [u8; 4]
-        ensures { result ≡ face_corners (place self.axis) (side_number self.side) }
+    // Each vertex has an even code, twice its corner's number.
+    pub(super) fn vertex_ids(self) -> [PackedFeatureId; 4]
+        ensures { result ≡ four_codes vertex_header (vertex_codes_of (place self.axis) (side_number self.side)) }
     {
         let sign_index = self.side as u8;
         match self.axis {
-            Axis::X => with_bits([0b000, 0b010, 0b011, 0b001], sign_index << 2),
-            Axis::Y => with_bits([0b000, 0b100, 0b101, 0b001], sign_index << 1),
-            Axis::Z => with_bits([0b000, 0b010, 0b110, 0b100], sign_index),
+            Axis::X => ids_with_bits(
+                FeatureKind::Vertex,
+                [0b000 << 1, 0b010 << 1, 0b011 << 1, 0b001 << 1],
+                sign_index << 3,
+            ),
+            Axis::Y => ids_with_bits(
+                FeatureKind::Vertex,
+                [0b000 << 1, 0b100 << 1, 0b101 << 1, 0b001 << 1],
+                sign_index << 2,
+            ),
+            Axis::Z => ids_with_bits(
+                FeatureKind::Vertex,
+                [0b000 << 1, 0b010 << 1, 0b110 << 1, 0b100 << 1],
+                sign_index << 1,
+            ),
         }
     }
 
-    // Each vertex has an even code, twice its corner's number.
-    pub(super) fn vertex_codes(self) -> [u8; 4]
-        ensures { result ≡ vertex_codes_of (place self.axis) (side_number self.side) }
-    {
-        self.corners().map(|corner| corner << 1)
-    }
-
-    pub(super) fn edge_codes(self) -> [u8; 4]
-        ensures { result ≡ edge_codes_of (place self.axis) (side_number self.side) }
+    pub(super) fn edge_ids(self) -> [PackedFeatureId; 4]
+        ensures { result ≡ four_codes edge_header (edge_codes_of (place self.axis) (side_number self.side)) }
     {
         let sign_index = self.side as u8;
         match self.axis {
-            Axis::X => with_bits(
+            Axis::X => ids_with_bits(
+                FeatureKind::Edge,
                 [0b11_010_000, 0b11_011_010, 0b11_011_001, 0b11_001_000],
                 (sign_index << 2) | (sign_index << 5),
             ),
-            Axis::Y => with_bits(
+            Axis::Y => ids_with_bits(
+                FeatureKind::Edge,
                 [0b11_100_000, 0b11_101_100, 0b11_101_001, 0b11_001_000],
                 (sign_index << 1) | (sign_index << 4),
             ),
-            Axis::Z => with_bits(
+            Axis::Z => ids_with_bits(
+                FeatureKind::Edge,
                 [0b11_010_000, 0b11_110_010, 0b11_110_100, 0b11_100_000],
                 sign_index | (sign_index << 3),
             ),
         }
     }
 
-    pub(super) fn code(self) -> u8
-        ensures { result ≡ place self.axis + side_number self.side * 3 + 10 }
+    pub(super) fn id(self) -> PackedFeatureId
+        ensures { result ≡ packed face_header (place self.axis + side_number self.side * 3 + 10) }
     {
-        self.axis as u8 + self.side as u8 * 3 + 10
+        PackedFeatureId::small(
+            FeatureKind::Face,
+            self.axis as u8 + self.side as u8 * 3 + 10,
+        )
     }
 }
