@@ -49,7 +49,7 @@ ranges seg1 seg2 =
     let tangent = subtracted seg1.1 seg1.0 in
     record { tangent1 = tangent; range1 = forward seg1 zero (dotted tangent tangent); range2 = ordered seg1 tangent seg2 }
 
--- both ends of the second segment have the same product, and it is that of an end of the first
+-- both ends of the second segment have the same product, and it is 0 or the squared length of the first
 unfoldable pub undefined : Ranges → Bool
 undefined r =
     Ieee.eq r.range2.first.product r.range2.last.product

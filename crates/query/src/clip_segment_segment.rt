@@ -9,11 +9,11 @@ use math::limits::{Given, SquaredLength};
 use math::refusal::Refusal;
 use math::vector::Vector;
 
-// A point of each segment, and where it lies: 0 is the first vertex, 1 between, 2 the second vertex.
+// A point of each segment, and where it lies: 0 is the first vertex, 1 between, 2 the second vertex. A tuple with numbers, as in the source.
 pub type ClippingPoints = (Vector, Vector, usize, usize);
 
 // A vertex of a segment: how far it lies along the first segment, and the number that stands for it in a clip.
-#[derive(Clone, Copy)]
+#[derive(Clone, Copy, Debug, PartialEq)]
 pub struct End {
     pub product: f64,
     pub point: Vector,
@@ -21,7 +21,7 @@ pub struct End {
 }
 
 // The ends of a segment, the one with the lower product first.
-#[derive(Clone, Copy)]
+#[derive(Clone, Copy, Debug, PartialEq)]
 pub struct Range {
     pub first: End,
     pub last: End,

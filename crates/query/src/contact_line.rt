@@ -26,6 +26,7 @@ pub fn contact_line<D>(contact: &TrackedContact<D>, buffer: &mut [u8]) -> Result
     if buffer.len() < CONTACT_LINE_LEN {
         return Err(Refusal::BufferTooShort);
     }
+    // By ranges: of what `chunks_exact_mut` or `split_at_mut` lends here, a proof learns nothing once it ends.
     for (i, bits) in number_bits(contact).iter().enumerate() {
         let at = NUMBER_LEN * i;
         put_group(&mut buffer[at..at + NUMBER_LEN], *bits, b' ');
@@ -43,6 +44,7 @@ pub fn contact_line<D>(contact: &TrackedContact<D>, buffer: &mut [u8]) -> Result
     Ok(())
 }
 
+// No number is a NaN, which `map` could only be told by clauses of its closure.
 fn number_bits<D>(contact: &TrackedContact<D>) -> [u64; 7]
     ensures { result ≡ words (seen contact.now) }
 {

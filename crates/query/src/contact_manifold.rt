@@ -18,6 +18,7 @@ pub struct TrackedContact<D> {
     ghost lawful: { bounded local_p1 local_p2 dist ≡ true },
 }
 
+// By hand, since no derive of `Clone` goes over a ghost field.
 impl<D: Copy> Clone for TrackedContact<D> {
     ghost is_clone = { λ x y. y ≡ x };
 

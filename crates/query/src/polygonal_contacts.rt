@@ -4,7 +4,7 @@ ghost use Rattle.query.specs.Clips.{clip_near};
 ghost use Rattle.math.specs.Refusals.{told_as};
 ghost use Rattle.shape.specs.Features.{fields};
 ghost use Rattle.query.specs.Contacts.{seen, seen_both};
-ghost use Rattle.query.specs.Edges.{framed, projected, edge_tangent, crossing, feature_at, clip_contact, edge_rule, edging};
+ghost use Rattle.query.specs.Edges.{framed, projected, edge_tangent, crossing, clip_contact, edge_rule, edging};
 
 use crate::clip_segment_segment;
 use crate::clip_segment_segment::ClippingPoints;
@@ -17,7 +17,6 @@ use math::refusal::Refusal;
 use math::vector::Vector;
 use math::vector2::Vector2;
 use math::wops;
-use shape::feature_id::PackedFeatureId;
 use shape::polygonal_feature3d::PolygonalFeature;
 
 // The contacts of two edges: none, or one at each end of the part that they share. Points, axis and pose are in the frame of `face1`.
@@ -40,14 +39,14 @@ pub fn contacts_edge_edge<D: ContactData>(
     if !sep_axis1.is_unit() {
         return Err(Refusal::AxisNotUnit);
     }
-    let pair = EdgePair {
+    EdgePair {
         pos12,
         face1,
         sep_axis1,
         face2,
         flipped,
-    };
-    pair.contacts()
+    }
+    .contacts()
 }
 
 // Two edges to be met, with a pose and an axis that are known to be fit.
@@ -62,9 +61,6 @@ struct EdgePair<'a> {
 }
 
 impl EdgePair<'_> {
-    ghost use Rattle.query.specs.Contacts.{seen, seen_both};
-    ghost use Rattle.query.specs.Edges.{plane_basis, crossing, edge_tangent, clip_contact, edge_rule};
-
     #[tactic(auto, unfolding(crate::specs::Edges::edge_rule))]
     fn contacts<D: ContactData>(
         &self,
