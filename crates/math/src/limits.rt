@@ -5,7 +5,7 @@ ghost use Rattle.std.specs.Option.{option_map_or};
 ghost use Rattle.math.specs.Limits.{may_be_given, near_one};
 
 // 2^20
-const LIMIT: f64 = 1048576.0;
+pub(crate) const LIMIT: f64 = 1048576.0;
 
 // 1 - 2^-20
 const UNIT_LOW: f64 = 0.99999904632568359375;

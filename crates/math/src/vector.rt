@@ -1,9 +1,10 @@
 // The vector in three dimensions, with the operations that the contact code takes from it.
 ghost use Rattle.std.specs.Prelude.{◌≡◌, true};
 ghost use Rattle.math.specs.Limits.{vector_given};
+ghost use Rattle.math.specs.Magnitude.{vector_within};
 ghost use Rattle.math.specs.Vectors.{added, subtracted, negated, scaled, dotted, crossed, sizes, vector_number, largest_place, FirstLargest};
 
-use crate::limits::{Given, SquaredLength};
+use crate::limits::{Given, LIMIT, SquaredLength};
 
 #[derive(Clone, Copy, Debug, PartialEq)]
 pub struct Vector {
@@ -99,7 +100,15 @@ impl Vector {
         }
     }
 
-    // The first place of the largest coordinate.
+    // Every coordinate is at most `bound` in size.
+    #[tactic(auto, unfolding(crate::specs::Magnitude::within, crate::specs::Magnitude::vector_within))]
+    pub fn is_within(self, bound: f64) -> bool
+        ensures { result ≡ vector_within bound self }
+    {
+        (self.x.abs() <= bound) & (self.y.abs() <= bound) & (self.z.abs() <= bound)
+    }
+
+    // The first place of the largest coordinate, a number as in the Rust crate that is ported.
     #[tactic(auto, using(crate::proofs::Largest::at_x, crate::proofs::Largest::at_y, crate::proofs::Largest::at_z_by_y, crate::proofs::Largest::at_z_by_x), unfolding(crate::specs::Vectors::largest_place))]
     pub fn max_position(self) -> usize
         ensures value { result ≡ largest_place self }
@@ -124,11 +133,10 @@ impl SquaredLength for Vector {
     }
 }
 
-#[tactic(auto, unfolding(crate::specs::Magnitude::vector_within))]
 impl Given for Vector {
     ghost given = { vector_given };
 
     fn is_given(self) -> bool {
-        self.x.is_given() & self.y.is_given() & self.z.is_given()
+        self.is_within(LIMIT)
     }
 }

@@ -54,7 +54,7 @@ impl<D: ContactData> TrackedContact<D> {
         }
     }
 
-    // The same, with points and ids exchanged where `flipped`.
+    // The same, with points and ids exchanged where `flipped`, a flag as in the Rust crate that is ported.
     pub(crate) fn flipped(
         local_p1: Vector,
         local_p2: Vector,

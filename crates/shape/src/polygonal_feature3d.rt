@@ -1,7 +1,6 @@
 // A polygonal feature: the vertex, edge or face of a convex shape that a contact is made from. None exists with more than four vertices or a vertex beyond 2^21.
 ghost use Rattle.std.specs.Prelude.{◌≡◌, ◌≤◌, true};
-ghost use Rattle.math.specs.Magnitude.{vector_within};
-ghost use Rattle.shape.specs.Nearness.{vertex_limit, near_all};
+ghost use Rattle.shape.specs.Nearness.{near_all};
 
 use crate::feature_id::PackedFeatureId;
 use math::limits::{Given, SquaredLength};
@@ -12,7 +11,7 @@ use math::vector::Vector;
 // 2^21
 const VERTEX_LIMIT: f64 = 2097152.0;
 
-// A feature's fields as given, with nothing known of them.
+// A feature's fields as given, with nothing known of them: arrays by value and a count, as in the Rust crate that is ported, and no heap.
 #[derive(Clone, Copy, Debug, PartialEq)]
 pub struct FeatureRow {
     pub vertices: [Vector; 4],
@@ -33,18 +32,10 @@ pub struct PolygonalFeature {
     ghost few: { num_vertices ≤ 4 },
 }
 
-// The coordinates are named, so the test is written out for each.
-#[tactic(auto, unfolding(math::specs::Magnitude::within, math::specs::Magnitude::vector_within))]
-fn is_near(v: Vector) -> bool
-    ensures { result ≡ vector_within vertex_limit v }
-{
-    (v.x.abs() <= VERTEX_LIMIT) & (v.y.abs() <= VERTEX_LIMIT) & (v.z.abs() <= VERTEX_LIMIT)
-}
-
 fn are_near(vertices: &[Vector; 4]) -> bool
     ensures { result ≡ near_all vertices.now }
 {
-    vertices.iter().all(|v| is_near(*v))
+    vertices.iter().all(|v| v.is_within(VERTEX_LIMIT))
 }
 
 impl PolygonalFeature {

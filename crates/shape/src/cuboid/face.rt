@@ -37,8 +37,7 @@ impl Axis {
         match dir.abs().max_position() {
             0 => Axis::X,
             1 => Axis::Y,
-            2 => Axis::Z,
-            _ => unreachable!(),
+            _ => Axis::Z,
         }
     }
 
