@@ -23,9 +23,9 @@ case "$1" in
    find crates/*/proofs -name '*.antt' | xargs cat | wc -l ;
    find crates/*/proofs -name 'Answers.antt' | wc -l ;
    for f in crates/*/proofs/*.antt; do
-     grep -oE '^pub [a-z_0-9◌-][^ ]*' "$f" | sed 's/^pub //' | while read -r l; do
-       others=$(grep -rlwF --include='*.antt' --include='*.rt' -e "$l" crates | grep -vxF "$f" | wc -l)
-       here=$(grep -wF -e "$l" "$f" | grep -vcE "^(pub )?(abbrev |unfoldable )*(pub )?$l " )
+     grep -oE "^ *(pub )?[a-z][A-Za-z_0-9'-]* : " "$f" | sed -E 's/^ *(pub )?//; s/ : $//' | sort -u | while read -r l; do
+       others=$(grep -rlwF --exclude-dir=out --include='*.antt' --include='*.rt' -e "$l" crates | grep -vxF "$f" | wc -l)
+       here=$(grep -wF -e "$l" "$f" | grep -vcE "^ *(pub )?$l (:|[^=]*= ?)")
        [ "$others" -eq 0 ] && [ "$here" -eq 0 ] && echo "$f: $l"
      done
    done ;;
