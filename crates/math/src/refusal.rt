@@ -38,7 +38,7 @@ pub enum Refusal {
 }
 
 impl Refusal {
-    // The reason in words, for a person.
+    // The reason in words, for a person: a table of this enum's own.
     pub fn reason(self) -> &'static str
         ensures { result.now ≡ worded self }
     {

@@ -13,7 +13,7 @@ pub struct Vector2 {
     pub y: f64,
 }
 
-// Both coordinates by name, as in space.
+// Both coordinates by name and in the order of the Rust crate that is ported, as those of `Vector`.
 #[tactic(auto, unfolding(crate::specs::Vectors2::subtracted, crate::specs::Vectors2::scaled, crate::specs::Vectors2::dotted, crate::specs::Vectors2::perp_dotted, crate::specs::Vectors2::reciprocal, crate::specs::Vectors2::usable, crate::specs::Vectors2::normalized))]
 impl Vector2 {
     pub fn new(x: f64, y: f64) -> Vector2

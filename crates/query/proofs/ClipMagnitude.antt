@@ -14,7 +14,7 @@ use Rattle.math.proofs.Magnitude.{no, within_more}
 use Rattle.math.proofs.Order.{lt_not_eq, lt_asym}
 use Rattle.math.proofs.VectorMagnitude.{vector_more, added_within, subtracted_within, scaled_within, dotted_within}
 use Rattle.shape.specs.Nearness.{vertex_limit}
-use Rattle.query.specs.Clips.{Segment, Clip, clip_limit, clip_near, clipped, product, forward, ordered, undefined, apart, along_range, end_clip, low_end, high_end}
+use Rattle.query.specs.Clips.{Segment, Clip, clip_limit, clip_near, clipped, product, forward, ordered, undefined, apart, along_range, at_first, at_second, end_clip, low_end, high_end}
 use Rattle.query.specs.declared.clip_segment_segment.Range.{Range}
 use Rattle.query.specs.declared.clip_segment_segment.Ranges.{Ranges}
 
@@ -251,33 +251,33 @@ module _ (seg1 : Segment) (h0 : vector_within end1 seg1.0 ≡ true) (h1 : vector
         vector_more (end2 ⊕ (end2 ⊕ end2) ⊗ one) clip_limit _ second_is clip_limit_is second_near
         (added_within end2 ((end2 ⊕ end2) ⊗ one) end2_is scaled_span_is r.first.point _ l.first (scaled_within (end2 ⊕ end2) one span_is one_is _ _ (subtracted_within end2 end2 end2_is end2_is r.last.point r.first.point l.last l.first) h))
 
-    at_first : (v : Vector) → vector_within end1 v ≡ true → vector_within clip_limit v ≡ true
-    at_first v h = vector_more end1 clip_limit v end1_is clip_limit_is end1_near h
+    near_first : (v : Vector) → vector_within end1 v ≡ true → vector_within clip_limit v ≡ true
+    near_first v h = vector_more end1 clip_limit v end1_is clip_limit_is end1_near h
 
-    at_second : (v : Vector) → vector_within end2 v ≡ true → vector_within clip_limit v ≡ true
-    at_second v h = vector_more end2 clip_limit v end2_is clip_limit_is end2_near h
+    near_second : (v : Vector) → vector_within end2 v ≡ true → vector_within clip_limit v ≡ true
+    near_second v h = vector_more end2 clip_limit v end2_is clip_limit_is end2_near h
 
     low_near : clip_near (low_end (beside r)) ≡ true
-    unfolding low_end end_clip
+    unfolding low_end end_clip at_first at_second
     low_near = by (lt zero low) refl
       where
         by : (t : Bool) → lt zero low ≡ t → clip_near (end_clip (beside r) (beside r).range1.first r.first t) ≡ true
         by true e =
             let f = first_fraction low l.low (lt_asym zero low e) not_past
             (λ z. sym (lt_not_eq zero low e) ∙ (squeezed along low sq zero along_is l.low sq_along zero_along (lt_asym zero low e) not_past z).0) in
-            and_from _ _ (on_first _ f) (at_second r.first.point l.first)
-        by false e = and_from _ _ (at_first seg1.0 h0) (on_second _ (second_fraction zero zero_along e not_before (λ z. or_left _ _ z)))
+            and_from _ _ (on_first _ f) (near_second r.first.point l.first)
+        by false e = and_from _ _ (near_first seg1.0 h0) (on_second _ (second_fraction zero zero_along e not_before (λ z. or_left _ _ z)))
 
     high_near : clip_near (high_end (beside r)) ≡ true
-    unfolding high_end end_clip
+    unfolding high_end end_clip at_first at_second
     high_near = by (lt high sq) refl
       where
         by : (t : Bool) → lt high sq ≡ t → clip_near (end_clip (beside r) (beside r).range1.last r.last t) ≡ true
         by true e =
             let f = first_fraction high l.high not_before (lt_asym high sq e)
             (λ z. sym (lt_not_eq high sq e) ∙ (squeezed along high sq zero along_is l.high sq_along zero_along not_before (lt_asym high sq e) z).1) in
-            and_from _ _ (on_first _ f) (at_second r.last.point l.last)
-        by false e = and_from _ _ (at_first seg1.1 h1) (on_second _ (second_fraction sq sq_along not_past e (λ z. or_right _ _ z)))
+            and_from _ _ (on_first _ f) (near_second r.last.point l.last)
+        by false e = and_from _ _ (near_first seg1.1 h1) (on_second _ (second_fraction sq sq_along not_past e (λ z. or_right _ _ z)))
 
   -- ---- whatever the clip answers, its points lie near
   module _ (seg2 : Segment) (k0 : vector_within end2 seg2.0 ≡ true) (k1 : vector_within end2 seg2.1 ≡ true) where

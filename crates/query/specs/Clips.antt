@@ -63,12 +63,17 @@ apart r = Ieee.lt r.range1.last.product r.range2.first.product || Ieee.lt r.rang
 unfoldable pub along_range : Range → Vector → Float → Vector
 along_range r direction p = added r.first.point (scaled direction ((p ⊖ r.first.product) ⊘ (r.last.product ⊖ r.first.product)))
 
--- the clip at the end of the second segment if that lies inside the first, or else at the end of the first
+-- the clip at an end of the first segment
+unfoldable pub at_first : Ranges → End → Clip
+at_first r e1 = (e1.point, along_range r.range2 (subtracted r.range2.last.point r.range2.first.point) e1.product, e1.feature, 1)
+
+-- the clip at an end of the second segment
+unfoldable pub at_second : Ranges → End → Clip
+at_second r e2 = (along_range r.range1 r.tangent1 e2.product, e2.point, 1, e2.feature)
+
+-- at the end of the second segment where that lies inside the first, else at the end of the first
 unfoldable pub end_clip : Ranges → End → End → Bool → Clip
-end_clip r e1 e2 inside =
-    cond inside
-    (along_range r.range1 r.tangent1 e2.product, e2.point, 1, e2.feature)
-    (e1.point, along_range r.range2 (subtracted r.range2.last.point r.range2.first.point) e1.product, e1.feature, 1)
+end_clip r e1 e2 inside = cond inside (at_second r e2) (at_first r e1)
 
 -- the clip where the shared part begins
 unfoldable pub low_end : Ranges → Clip

@@ -1,30 +1,30 @@
 // Two segments projected on one another, clipped to the part that they share.
-#![tactic(auto, unfolding(crate::specs::Clips::product, crate::specs::Clips::ordered, crate::specs::Clips::undefined, crate::specs::Clips::apart, crate::specs::Clips::along_range, crate::specs::Clips::end_clip, crate::specs::Clips::low_end, crate::specs::Clips::high_end, crate::specs::Clips::clipped, crate::specs::Clips::clipping))]
+#![tactic(auto, unfolding(crate::specs::Clips::product, crate::specs::Clips::ordered, crate::specs::Clips::undefined, crate::specs::Clips::apart, crate::specs::Clips::along_range, crate::specs::Clips::at_first, crate::specs::Clips::at_second, crate::specs::Clips::end_clip, crate::specs::Clips::low_end, crate::specs::Clips::high_end, crate::specs::Clips::clipped, crate::specs::Clips::clipping))]
 
 ghost use Rattle.std.specs.Prelude.{◌≡◌};
 ghost use Rattle.math.specs.Refusals.{told};
-ghost use Rattle.query.specs.Clips.{forward, in_order, along_range, ranges, undefined, apart, end_clip, low_end, high_end, clipped, clipping};
+ghost use Rattle.query.specs.Clips.{forward, in_order, along_range, ranges, undefined, apart, at_first, at_second, low_end, high_end, clipped, clipping};
 
 use math::limits::{Given, SquaredLength};
 use math::refusal::Refusal;
 use math::vector::Vector;
 
-// A point of each segment, and where it lies: 0 is the first vertex, 1 between, 2 the second vertex. A tuple with numbers, as in the source.
+// A point of each segment, and where it lies: 0 is the first vertex, 1 between, 2 the second vertex. A tuple with numbers, as in the Rust crate that is ported.
 pub type ClippingPoints = (Vector, Vector, usize, usize);
 
-// A vertex of a segment: how far it lies along the first segment, and the number that stands for it in a clip.
-#[derive(Clone, Copy, Debug, PartialEq)]
-pub struct End {
-    pub product: f64,
-    pub point: Vector,
-    pub feature: usize,
+// A vertex of a segment: how far it lies along the first segment, and the number that stands for it in `ClippingPoints`.
+#[derive(Clone, Copy)]
+struct End {
+    product: f64,
+    point: Vector,
+    feature: usize,
 }
 
-// The ends of a segment, the one with the lower product first.
-#[derive(Clone, Copy, Debug, PartialEq)]
-pub struct Range {
-    pub first: End,
-    pub last: End,
+// The ends of a segment.
+#[derive(Clone, Copy)]
+struct Range {
+    first: End,
+    last: End,
 }
 
 impl Range {
@@ -45,6 +45,7 @@ impl Range {
         }
     }
 
+    // The end with the lower product first.
     fn ordered(self) -> Self
         ensures { result ≡ in_order self }
     {
@@ -112,7 +113,11 @@ impl Ranges {
         ensures { result ≡ low_end self.now }
     {
         let (end1, end2) = (self.range1.first, self.range2.first);
-        self.clip_at(end1, end2, end2.product > end1.product)
+        if end2.product > end1.product {
+            self.at_second(end2)
+        } else {
+            self.at_first(end1)
+        }
     }
 
     // Where it ends.
@@ -120,30 +125,32 @@ impl Ranges {
         ensures { result ≡ high_end self.now }
     {
         let (end1, end2) = (self.range1.last, self.range2.last);
-        self.clip_at(end1, end2, end2.product < end1.product)
+        if end2.product < end1.product {
+            self.at_second(end2)
+        } else {
+            self.at_first(end1)
+        }
     }
 
-    // At the end of the second segment if that lies inside the first, or else at the end of the first.
-    fn clip_at(&self, end1: End, end2: End, is_inside: bool) -> ClippingPoints
-        ensures { result ≡ end_clip self.now end1 end2 is_inside }
+    // At an end of the first segment.
+    fn at_first(&self, end1: End) -> ClippingPoints
+        ensures { result ≡ at_first self.now end1 }
     {
-        let Ranges {
-            tangent1,
-            range1,
-            range2,
-        } = self;
-        if is_inside {
-            let p1 = range1.at(*tangent1, end2.product);
-            (p1, end2.point, 1, end2.feature)
-        } else {
-            let tangent2 = range2.last.point.sub(range2.first.point);
-            let p2 = range2.at(tangent2, end1.product);
-            (end1.point, p2, end1.feature, 1)
-        }
+        let tangent2 = self.range2.last.point.sub(self.range2.first.point);
+        let p2 = self.range2.at(tangent2, end1.product);
+        (end1.point, p2, end1.feature, 1)
+    }
+
+    // At an end of the second segment, which lies inside the first.
+    fn at_second(&self, end2: End) -> ClippingPoints
+        ensures { result ≡ at_second self.now end2 }
+    {
+        let p1 = self.range1.at(self.tangent1, end2.product);
+        (p1, end2.point, 1, end2.feature)
     }
 }
 
-// Turned down with 2 where a coordinate may not be given, with 13 where the clip would divide zero by zero.
+// The two segments stand apart, as in the Rust crate that is ported. Turned down with 2 where a coordinate may not be given, with 13 where the clip would divide zero by zero.
 pub fn clip_segment_segment(
     seg1: (Vector, Vector),
     seg2: (Vector, Vector),

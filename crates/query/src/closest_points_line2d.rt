@@ -28,9 +28,11 @@ pub fn closest_points_line2d(
 pub(crate) fn meet(edge1: [Vector2; 2], edge2: [Vector2; 2]) -> Option<(f64, f64)>
     ensures { result ≡ meeting (products edge1 edge2) }
 {
-    let dir1 = edge1[1].sub(edge1[0]);
-    let dir2 = edge2[1].sub(edge2[0]);
-    let r = edge1[0].sub(edge2[0]);
+    let [start1, end1] = edge1;
+    let [start2, end2] = edge2;
+    let dir1 = end1.sub(start1);
+    let dir2 = end2.sub(start2);
+    let r = start1.sub(start2);
     let a = dir1.length_squared();
     let e = dir2.length_squared();
     let f = dir2.dot(r);

@@ -2,6 +2,7 @@
 ghost use Rattle.std.specs.Prelude.{◌≡◌};
 ghost use Rattle.query.specs.Data.{touch_initial, tally_initial};
 
+// No default body: it would ask `Default` of every datum.
 pub trait ContactData: Copy {
     // The datum of every new contact.
     ghost initial: { Self };

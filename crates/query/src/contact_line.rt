@@ -44,7 +44,7 @@ pub fn contact_line<D>(contact: &TrackedContact<D>, buffer: &mut [u8]) -> Result
     Ok(())
 }
 
-// No number is a NaN, which `map` could only be told by clauses of its closure.
+// Written out: that no number is a NaN, `map` could only be told by clauses of its closure.
 fn number_bits<D>(contact: &TrackedContact<D>) -> [u64; 7]
     ensures { result ≡ words (seen contact.now) }
 {

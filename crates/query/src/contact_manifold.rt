@@ -18,7 +18,7 @@ pub struct TrackedContact<D> {
     ghost lawful: { bounded local_p1 local_p2 dist ≡ true },
 }
 
-// By hand, since no derive of `Clone` goes over a ghost field.
+// By hand, since no derive of `Clone` goes over a ghost field of a generic struct.
 impl<D: Copy> Clone for TrackedContact<D> {
     ghost is_clone = { λ x y. y ≡ x };
 
@@ -33,7 +33,7 @@ impl<D: Copy> Clone for TrackedContact<D> {
 impl<D: ContactData> TrackedContact<D> {
     ghost use Rattle.query.specs.Contacts.{seen, fresh, turned};
 
-    // A contact with the initial datum.
+    // A contact with the initial datum, from its values one by one as in the Rust crate that is ported.
     fn new(
         local_p1: Vector,
         local_p2: Vector,

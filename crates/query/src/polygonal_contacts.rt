@@ -19,7 +19,7 @@ use math::vector2::Vector2;
 use math::wops;
 use shape::polygonal_feature3d::PolygonalFeature;
 
-// The contacts of two edges: none, or one at each end of the part that they share. Points, axis and pose are in the frame of `face1`.
+// The contacts of two edges: none, or one at each end of the part that they share. Points, axis and pose are in the frame of `face1`. The parameters, the flag among them, are those of the Rust crate that is ported.
 #[tactic(auto, unfolding(crate::specs::Edges::framed, crate::specs::Edges::edging))]
 pub fn contacts_edge_edge<D: ContactData>(
     pos12: &Pose,
@@ -49,7 +49,7 @@ pub fn contacts_edge_edge<D: ContactData>(
     .contacts()
 }
 
-// Two edges to be met, with a pose and an axis that are known to be fit.
+// Two edges to be met, with a pose and an axis that are known to be fit; `flipped` is the flag of the call.
 #[derive(Drop)]
 struct EdgePair<'a> {
     pos12: &'a Pose,
@@ -67,10 +67,12 @@ impl EdgePair<'_> {
     ) -> Result<Option<(TrackedContact<D>, TrackedContact<D>)>, Refusal>
         ensures { told_as seen_both result ≡ edge_rule self.now.flipped D.ContactData.initial self.now.pos12.now (fields self.now.face1.now) self.now.sep_axis1 (fields self.now.face2.now) }
     {
-        let edge1 = (self.face1.vertices[0], self.face1.vertices[1]);
+        let [start1, end1, ..] = self.face1.vertices;
+        let [start2, end2, ..] = self.face2.vertices;
+        let edge1 = (start1, end1);
         let edge2 = (
-            self.pos12.transform_point(self.face2.vertices[0]),
-            self.pos12.transform_point(self.face2.vertices[1]),
+            self.pos12.transform_point(start2),
+            self.pos12.transform_point(end2),
         );
         // The tangents are taken in the plane through the origin that has `sep_axis1` as its normal.
         let basis = wops::orthonormal_basis(self.sep_axis1);
@@ -94,7 +96,7 @@ impl EdgePair<'_> {
         requires { clip_near clip ≡ true }
         ensures { seen result ≡ clip_contact self.now.flipped D.ContactData.initial self.now.pos12.now (fields self.now.face1.now) self.now.sep_axis1 (fields self.now.face2.now) clip }
     {
-        // The id of an edge's first vertex, of the edge, or of its second vertex.
+        // The id of an edge's first vertex, of the edge, or of its second vertex: by number, as in the Rust crate that is ported.
         let feature_at = |face: &PolygonalFeature, id: usize| match id {
             0 => face.vids[0],
             1 => face.eids[0],

@@ -21,7 +21,7 @@ pub enum Fault {
 }
 
 impl Fault {
-    // The reason in words, for a person.
+    // The reason in words, for a person: a table of this enum's own.
     pub fn reason(self) -> &'static str
         ensures { result.now ≡ worded self }
     {

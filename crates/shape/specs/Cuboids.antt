@@ -33,10 +33,10 @@ main_axis_of dir = largest_place (sizes dir)
 abbrev pub side_of : Float → ℕ
 side_of d = cond (is_sign_negative d) 0 1
 
-abbrev pub place : Axis → ℕ
-place X = 0
-place Y = 1
-place Z = 2
+abbrev pub axis_number : Axis → ℕ
+axis_number X = 0
+axis_number Y = 1
+axis_number Z = 2
 
 abbrev pub side_number : Side → ℕ
 side_number Negative = 0

@@ -32,7 +32,7 @@ const CODE_BITS: u32 = 30;
 
 impl FeatureKind {
     // The bits that stand above the code.
-    fn header(self) -> u32
+    fn header_bits(self) -> u32
         ensures { result ≡ header self * 2 ^ 30 }
     {
         match self {
@@ -43,6 +43,7 @@ impl FeatureKind {
     }
 }
 
+// `vertex`, `edge`, `face`, `unpack` and the tests are named as in the Rust crate that is ported.
 impl PackedFeatureId {
     // The id of nothing.
     pub const UNKNOWN: PackedFeatureId = PackedFeatureId(0);
@@ -88,7 +89,7 @@ impl PackedFeatureId {
         requires { code < 2 ^ 30 }
         ensures { result ≡ packed (header kind) code }
     {
-        PackedFeatureId(kind.header() | code)
+        PackedFeatureId(kind.header_bits() | code)
     }
 
     // A code of eight bits is never too large.

@@ -21,6 +21,7 @@ pub struct FeatureRow {
     pub num_vertices: usize,
 }
 
+// The same fields, each under its name in the Rust crate, and what is known of them.
 #[derive(Clone, Copy, Debug, PartialEq)]
 pub struct PolygonalFeature {
     pub vertices: [Vector; 4],

@@ -22,7 +22,7 @@ pub trait PolygonalFeatureMap {
     // The fields of the feature, for a shape, a direction and a hint.
     ghost meaning: { Meaning Self };
 
-    // Numbers that may not be given are turned down with 2, and `out_feature` is as before.
+    // Numbers that may not be given are turned down with 2, and `out_feature` is as before. Direction, hint and place apart, the form of the Rust crate that is ported.
     fn local_support_feature(
         &self,
         dir: Vector,

