@@ -150,7 +150,7 @@ impl Ranges {
     }
 }
 
-// The two segments stand apart, as in the Rust crate that is ported. Turned down with 2 where a coordinate may not be given, with 13 where the clip would divide zero by zero.
+// Two parameters, as in the Rust crate that is ported. Turned down with 2 where a coordinate may not be given, with 13 where the clip would divide zero by zero.
 pub fn clip_segment_segment(
     seg1: (Vector, Vector),
     seg2: (Vector, Vector),
