@@ -88,6 +88,7 @@ impl Session {
         }
     }
 
+    #[tactic(auto, using(crate::proofs::Slots::shape_put))]
     fn set_shape(&mut self, which: Which, sizes: Form) -> Result<Reply, Failure>
         ensures answer { told_answer result ≡ replied (λ _. Done) (forming sizes) }
         ensures after { state self.new ≡ if_done (forming sizes) (with_shape which (Some sizes) (state self.old)) (state self.old) }
