@@ -1,5 +1,5 @@
 -- A feature or a shape written into its slot of a session, and a shape read there.
-use Rattle.std.proofs.Common.{◌≡◌, ℕ, List, [], ◌∷◌, length, get_or, set, Some, None, Option, sym, refl, ap, ◌∙◌, subst, arith}
+use Rattle.std.proofs.Common.{◌≡◌, ℕ, List, [], ◌∷◌, length, get_or, set, Some, Option, sym, refl, ap, ◌∙◌, subst, arith}
 use Rattle.math.specs.Refusals as Refusals
 use Rattle.math.specs.Refusals.{done, refused}
 use Rattle.shape.specs.Features.{Fields, fields}
