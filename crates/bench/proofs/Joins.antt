@@ -1,5 +1,5 @@
 -- What a writer leaves, step by step: a text written in two steps is that of the first and then that of the second, and a loop has written a front of the whole.
-use Rattle.std.proofs.Common.{◌≡◌, ℕ, zero, suc, ◌+◌, ◌-◌, ◌*◌, ◌/◌, ◌%◌, ◌^◌, ◌<◌, ◌≤◌, Bool, true, List, [], ◌∷◌, ◌++◌, length, is_ok, Ok, Err, string_bytes, Result, String, sym, refl, ap, ◌∙◌, subst, append_assoc, append-nil, arith, length-append, OnOk}
+use Rattle.std.proofs.Common.{◌≡◌, ℕ, zero, suc, ◌-◌, ◌*◌, ◌/◌, ◌%◌, ◌^◌, Bool, true, List, [], ◌∷◌, ◌++◌, length, is_ok, Ok, Err, string_bytes, Result, String, sym, refl, ap, ◌∙◌, subst, append_assoc, append-nil, arith, length-append, OnOk}
 use Rattle.query.specs.Lines.{digit, hex_front}
 use Rattle.bench.specs.Texts.{Wrote, Appended}
 

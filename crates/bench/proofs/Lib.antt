@@ -1,3 +1,3 @@
 pub mod Joins
-pub mod Places
+pub mod Slots
 pub mod Runs

@@ -9,7 +9,6 @@ use Rattle.shape.specs.Features as Features
 use Rattle.shape.specs.Ids.{header, packing}
 use Rattle.shape.specs.Moves.{moving, moved_or_kept}
 use Rattle.shape.specs.Supports.{direction_given, supporting}
-use Rattle.shape.specs.declared.polygonal_feature3d.PolygonalFeature.{PolygonalFeature}
 use Rattle.query.specs.Clips.{clipping}
 use Rattle.query.specs.Meeting.{meeting_answer}
 use Rattle.script.specs.Lines.{Means, Faulty}
@@ -24,6 +23,7 @@ use Rattle.script.specs.declared.fault.Fault.TheVariants.{NoShape}
 use Rattle.bench.specs.Answers.{Answer, Nothing, Done, Unreadable, Feature, Packed, Clipped, Meeting, Root, replied}
 use Rattle.bench.specs.Solids.{form, forming, supported}
 use Rattle.bench.specs.declared.session.Session.{Session}
+use Rattle.bench.specs.declared.session.Slot.{Slot}
 use Rattle.bench.specs.declared.session.Solid.{Solid}
 
 -- the two shapes and the two features
@@ -33,19 +33,19 @@ pub record State : Type 0 where
   pub feature1 : Fields
   pub feature2 : Fields
 
--- what stands at a place of a session's row; past its end, nothing
-abbrev pub shape_in : List (Option Solid) → ℕ → Option Solid
-shape_in shapes k = slice_index_or shapes k None
+-- the shape and the feature that stand in a slot; past the last slot, nothing
+abbrev pub shape_in : List Slot → ℕ → Option Solid
+shape_in slots k = slice_index_or (map (λ (slot : Slot). slot.shape) slots) k None
 
-abbrev pub fields_in : List PolygonalFeature → ℕ → Fields
-fields_in features k = slice_index_or (map fields features) k nothing
+abbrev pub fields_in : List Slot → ℕ → Fields
+fields_in slots k = slice_index_or (map (λ (slot : Slot). fields slot.feature) slots) k nothing
 
 abbrev pub state : Session → State
 state s = record {
-  shape1 = form (shape_in s.shapes 0);
-  shape2 = form (shape_in s.shapes 1);
-  feature1 = fields_in s.features 0;
-  feature2 = fields_in s.features 1;
+  shape1 = form (shape_in s.slots 0);
+  shape2 = form (shape_in s.slots 1);
+  feature1 = fields_in s.slots 0;
+  feature2 = fields_in s.slots 1;
 }
 
 -- no shapes, and features with no vertices

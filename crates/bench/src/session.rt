@@ -1,6 +1,5 @@
 // What a script has put in place so far, and its commands performed there, each by the call that it names.
-ghost use Rattle.std.specs.Prelude.{◌≡◌, ◌<◌};
-ghost use Rattle.bench.specs.Places.{place};
+ghost use Rattle.std.specs.Prelude.{◌≡◌};
 
 use crate::answer::{Failure, Reply};
 use math::pose::Pose;
@@ -23,11 +22,16 @@ pub enum Solid {
     Cuboid(Cuboid),
 }
 
-// Two shapes, or none yet, and two features.
+// What a script calls 1 or 2: a shape, or none yet, and a feature.
+#[derive(Clone, Copy)]
+pub struct Slot {
+    pub shape: Option<Solid>,
+    pub feature: PolygonalFeature,
+}
+
 #[derive(Drop)]
 pub struct Session {
-    pub shapes: [Option<Solid>; 2],
-    pub features: [PolygonalFeature; 2],
+    pub slots: [Slot; 2],
 }
 
 impl Session {
@@ -43,8 +47,10 @@ impl Session {
         ensures { state result ≡ start }
     {
         Session {
-            shapes: [None; 2],
-            features: [PolygonalFeature::new(); 2],
+            slots: [Slot {
+                shape: None,
+                feature: PolygonalFeature::new(),
+            }; 2],
         }
     }
 
@@ -68,7 +74,9 @@ impl Session {
             Command::Support(which, dir, hint) => self.support(which, dir, hint),
             Command::Make(which, row) => self.make(which, row),
             Command::Transform(which, pose) => self.transform(which, pose),
-            Command::Show(which) => Ok(Reply::Feature(self.features[place_of(which)].into())),
+            Command::Show(which) => Ok(Reply::Feature(
+                self.slots[usize::from(which)].feature.into(),
+            )),
             Command::Pack(kind, code) => Ok(Reply::Packed(PackedFeatureId::pack(kind, code)?)),
             Command::Clip(first, second) => {
                 Ok(Reply::Clipped(clip_segment_segment::clip_segment_segment(first, second)?))
@@ -80,11 +88,12 @@ impl Session {
         }
     }
 
+    #[tactic(auto, using(crate::proofs::Slots::shape_put))]
     fn set_shape(&mut self, which: Which, sizes: Form) -> Result<Reply, Failure>
         ensures answer { told_answer result ≡ replied (λ _. Done) (forming sizes) }
         ensures after { state self.new ≡ if_done (forming sizes) (with_shape which (Some sizes) (state self.old)) (state self.old) }
     {
-        self.shapes[place_of(which)] = Some(Solid::make(sizes)?);
+        self.slots[usize::from(which)].shape = Some(Solid::try_from(sizes)?);
         Ok(Reply::Done)
     }
 
@@ -92,9 +101,9 @@ impl Session {
         ensures answer { told_answer result ≡ support_answer (shape_at which (state self.old)) dir hint }
         ensures after { state self.new ≡ with_feature which (support_left (shape_at which (state self.old)) dir hint (feature_at which (state self.old))) (state self.old) }
     {
-        let k = place_of(which);
-        let shape = self.shapes[k].ok_or(Fault::NoShape)?;
-        shape.local_support_feature(dir, hint, &mut self.features[k])?;
+        let slot = &mut self.slots[usize::from(which)];
+        let shape = slot.shape.ok_or(Fault::NoShape)?;
+        shape.local_support_feature(dir, hint, &mut slot.feature)?;
         Ok(Reply::Done)
     }
 
@@ -102,7 +111,7 @@ impl Session {
         ensures answer { told_answer result ≡ replied (λ _. Done) (moving pose (feature_at which (state self.old))) }
         ensures after { state self.new ≡ with_feature which (moved_or_kept pose (feature_at which (state self.old))) (state self.old) }
     {
-        self.features[place_of(which)].transform_by(&pose)?;
+        self.slots[usize::from(which)].feature.transform_by(&pose)?;
         Ok(Reply::Done)
     }
 
@@ -110,11 +119,12 @@ impl Session {
         ensures answer { told_answer result ≡ replied (λ _. Done) (making row) }
         ensures after { state self.new ≡ with_feature which (made row (feature_at which (state self.old))) (state self.old) }
     {
-        PolygonalFeature::make(row, &mut self.features[place_of(which)])?;
+        PolygonalFeature::make(row, &mut self.slots[usize::from(which)].feature)?;
         Ok(Reply::Done)
     }
 }
 
+// By `new`, whose contract says what is there.
 impl Default for Session {
     ghost use Rattle.bench.specs.Sessions.{state, start};
 
@@ -125,14 +135,16 @@ impl Default for Session {
     }
 }
 
-impl Solid {
+impl TryFrom<Form> for Solid {
     ghost use Rattle.std.specs.Prelude.{Some};
     ghost use Rattle.math.specs.Refusals.{told_as};
     ghost use Rattle.bench.specs.Solids.{form, forming};
 
-    fn make(sizes: Form) -> Result<Solid, Refusal>
-        ensures { told_as (λ s. form (Some s)) result ≡ forming sizes }
-    {
+    type Error = Refusal;
+
+    ghost try_from_gives = { λ sizes result. told_as (λ s. form (Some s)) result ≡ forming sizes };
+
+    fn try_from(sizes: Form) -> Result<Self, Refusal> {
         match sizes {
             Form::Cylinder(half_height, radius) => {
                 Cylinder::new(half_height, radius).map(Solid::Cylinder)
@@ -159,11 +171,4 @@ impl PolygonalFeatureMap for Solid {
             Solid::Cuboid(cuboid) => cuboid.local_support_feature(dir, hint, out_feature),
         }
     }
-}
-
-fn place_of(which: Which) -> usize
-    ensures value { result ≡ place which }
-    ensures bound { result < 2 }
-{
-    which as usize
 }

@@ -221,6 +221,7 @@ impl Text for Failure {
 }
 
 // The lowest `digits` digits of `value`, highest first.
+// It counts since each digit has its own shift, from the highest on, as the definition `hex` has them; `put_group` of query's contact line, a like loop, writes into a part of a buffer and cannot fail.
 #[tactic(auto, using(query::proofs::Buffers::hex_more, crate::proofs::Joins::hex_front_none, crate::proofs::Joins::length_hex_front), unfolding(query::specs::Lines::hex))]
 fn write_hex(out: &mut String, digits: usize, value: u64) -> Result<(), AllocError>
     requires { digits ≤ 16 }

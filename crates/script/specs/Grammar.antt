@@ -32,6 +32,11 @@ abbrev pub ordinal : Which → Text
 ordinal First = codes "1"
 ordinal Second = codes "2"
 
+-- counted from 0, as the slots of a session are
+abbrev pub ordinal_index : Which → ℕ
+ordinal_index First = 0
+ordinal_index Second = 1
+
 abbrev pub Spells : Item → Text → Type 0
 Spells (Says t) w = w ≡ t
 Spells (Chosen k) w = w ≡ ordinal k

@@ -12,6 +12,17 @@ pub enum Which {
     Second = 1,
 }
 
+impl From<Which> for usize {
+    ghost use Rattle.std.specs.Prelude.{◌≡◌, ◌<◌};
+    ghost use Rattle.script.specs.Grammar.{ordinal_index};
+
+    ghost from_gives = { λ which n. (n ≡ ordinal_index which) × (n < 2) };
+
+    fn from(which: Which) -> Self {
+        which as usize
+    }
+}
+
 // A shape's kind and sizes as given.
 #[derive(Clone, Copy, Debug, PartialEq)]
 pub enum Form {

@@ -1,13 +1,13 @@
--- The feature at its place is made anew or kept.
+-- The feature in its slot is made anew or kept.
 use Rattle.std.proofs.Common.{arith}
 use Rattle.shape.specs.Features.{made}
-use Rattle.bench.proofs.Places.{feature_remade}
+use Rattle.bench.proofs.Slots.{feature_remade}
 use Rattle.bench.proofs.session.Session.make.Goals as goal
 
 pub returns-in_err-make-clause-after : goal.returns-in_err-make-clause-after
 returns-in_err-make-clause-after c =
-    feature_remade c.args.which c.args.self.now c.place_of.result c.index-self-place_of.result c.make.new.out (made c.args.row) c.place_of.ensures.value (omega arith) c.make.ensures.after
+    feature_remade c.args.which c.args.self.now c.from.result c.index-self-from.result c.make.new.out (made c.args.row) c.from.ensures.0 (omega arith) c.make.ensures.after
 
 pub returns-clause-after : goal.returns-clause-after
 returns-clause-after c =
-    feature_remade c.args.which c.args.self.now c.place_of.result c.index-self-place_of.result c.make.new.out (made c.args.row) c.place_of.ensures.value (omega arith) c.make.ensures.after
+    feature_remade c.args.which c.args.self.now c.from.result c.index-self-from.result c.make.new.out (made c.args.row) c.from.ensures.0 (omega arith) c.make.ensures.after
