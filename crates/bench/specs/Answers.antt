@@ -1,7 +1,7 @@
 -- What a command answers, and how a session's result tells it.
 use Rattle.std.specs.Prelude.{ℕ, Ok, Err, Option, Result, Float}
 use Rattle.math.specs.Refusals as Refusals
-use Rattle.math.specs.Refusals.{numbered, done, refused}
+use Rattle.math.specs.Refusals.{done, refused}
 use Rattle.shape.specs.declared.feature_id.PackedFeatureId.{PackedFeatureId}
 use Rattle.query.specs.Clips as Clips
 use Rattle.shape.specs.Features.{Fields}
@@ -33,7 +33,7 @@ told_reply (ReplyOf.Meeting places) = Meeting places
 told_reply (ReplyOf.Root v) = Root v
 
 abbrev pub told_failure : Failure → Answer
-told_failure (FailureOf.TurnedDown refusal) = TurnedDown (numbered refusal)
+told_failure (FailureOf.TurnedDown number) = TurnedDown number
 told_failure (FailureOf.Unreadable fault) = Unreadable fault
 
 abbrev pub told_answer : Result Reply Failure → Answer

@@ -1,5 +1,6 @@
 // What a command answers: a reply, or why there is none.
 ghost use Rattle.std.specs.Prelude.{◌≡◌};
+ghost use Rattle.math.specs.Refusals.{numbered};
 ghost use Rattle.bench.specs.declared.answer.Failure.TheVariants.{TurnedDown, Unreadable};
 
 use math::refusal::Refusal;
@@ -22,15 +23,16 @@ pub enum Reply {
 
 #[derive(Clone, Copy, Debug, PartialEq, Eq)]
 pub enum Failure {
-    TurnedDown(Refusal),
+    // The number of the refusal, whatever it is: an answer with any number can be written.
+    TurnedDown(u8),
     Unreadable(Fault),
 }
 
 impl From<Refusal> for Failure {
-    ghost from_gives = { λ r f. f ≡ TurnedDown r };
+    ghost from_gives = { λ r f. f ≡ TurnedDown (numbered r) };
 
     fn from(refusal: Refusal) -> Failure {
-        Failure::TurnedDown(refusal)
+        Failure::TurnedDown(refusal.into())
     }
 }
 

@@ -207,9 +207,9 @@ impl Text for Failure {
 
     fn write_to(&self, out: &mut String) -> Result<(), AllocError> {
         match *self {
-            Failure::TurnedDown(refusal) => {
+            Failure::TurnedDown(number) => {
                 "refused "
-                    .then(usize::from(u8::from(refusal)))
+                    .then(usize::from(number))
                     .then("\n")
                     .write_to(out)
             }
